@@ -1,0 +1,4 @@
+pub mod Characters
+pub mod Texts
+pub mod Decoding
+pub mod Refusals

@@ -1,0 +1,3 @@
+//! Texts as bytes: UTF-8, controls, good texts, style sequences and visible text.
+pub mod decode;
+pub mod refusal;

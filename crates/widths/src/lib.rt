@@ -1,0 +1,3 @@
+//! How many columns characters take.
+pub mod ranges;
+pub mod tables;
