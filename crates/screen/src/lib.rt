@@ -1,0 +1,2 @@
+//! What bytes do to a screen: definitions and laws.
+pub mod cells;
