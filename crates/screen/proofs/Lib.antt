@@ -1,0 +1,13 @@
+pub mod Sequences
+pub mod Decode
+pub mod Translate
+pub mod Drawing
+pub mod Places
+pub mod Feeding
+pub mod Erasing
+pub mod Moving
+pub mod Refreshing
+pub mod Inserting
+pub mod Clearing
+pub mod Forming
+pub mod Keeping

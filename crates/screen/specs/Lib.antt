@@ -1,2 +1,5 @@
 pub mod Screen
 pub mod Bytes
+pub mod Output
+pub mod Laws
+pub mod Pages

@@ -2,7 +2,7 @@
 use mathlib.Core.Path.{_≡_}
 use mathlib.Core.Bool.{Bool, true}
 use mathlib.Core.List.{List, _++_}
-use Prim.Native.Nat.{ℕ}
+use Prim.Native.Nat.{ℕ, _+_, _≤_}
 use lib.ListN.{length, drop}
 use lib.Utf8.{encode, scalar}
 use Rattle.std.specs.declared.option.Option.{Option}
@@ -23,3 +23,8 @@ pub record Front (bs : List ℕ) (d : Decoded) : Type 0 where
 abbrev pub Decodes : List ℕ → Option Decoded → Type 0
 Decodes bs None = NoCharacter bs
 Decodes bs (Some d) = Front bs d
+
+-- a character of one to four bytes at an index lies within so many bytes
+abbrev pub Within : ℕ → ℕ → Option Decoded → Type 0
+Within i n None = Unit {0}
+Within i n (Some d) = (1 ≤ d .len) × (d .len ≤ 4) × (i + d .len ≤ n)

@@ -1,4 +1,5 @@
 pub mod Characters
 pub mod Texts
 pub mod Decoding
+pub mod Continuations
 pub mod Refusals

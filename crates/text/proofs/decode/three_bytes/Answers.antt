@@ -1,0 +1,19 @@
+-- `three_bytes` meets its contract. Assumes nothing.
+use Rattle.text.proofs.Decodes.{lacks-second, lacks-third, answers-three}
+use native.Mathlib.Omega.{arith}
+use Rattle.text.proofs.decode.three_bytes.Needs as need
+
+pub returns-in-Break-second : need.returns-in-Break-second
+returns-in-Break-second c =
+    let a = lacks-second (c .args .bytes .now) (c .args .at) (omega arith) (c .in-Break-second .ensures tt) in
+    rw (c .from-residual .ensures) (record { decodes = a .0; within = a .1 })
+
+pub returns-in-Break-third : need.returns-in-Break-third
+returns-in-Break-third c =
+    let a = lacks-third (c .args .bytes .now) (c .args .at) (omega arith) (c .in-Break-third .ensures tt) in
+    rw (c .from-residual-in-Break-third .ensures) (record { decodes = a .0; within = a .1 })
+
+pub returns : need.returns
+returns c =
+    let a = answers-three (c .args .bytes .now) (c .args .at) (omega arith) _ _ (c .in-Continue-second .ensures tt) (c .in-Continue-third .ensures tt) (c .spelled .result) (c .spelled .ensures) in
+    record { decodes = a .0; within = a .1 }
