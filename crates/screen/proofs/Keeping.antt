@@ -8,7 +8,7 @@ use native.Mathlib.Omega.{arith}
 use Rattle.screen.proofs.Drawing.{put-down}
 use Rattle.screen.proofs.Forming.{formed-blank, formed-mark, formed-placed, formed-wipe}
 use Rattle.screen.specs.Bytes.{act, at, begin, bottom, column, continue, dropped, feed, finish, inked, into, joinAfter, move, step, stepIn, wiped, within}
-use Rattle.screen.specs.Laws.{Formed, Keeps, Kept}
+use Rattle.screen.specs.Laws.{AllFormed, AlwaysKept, Formed, Kept}
 use Rattle.screen.specs.Screen.{Geometry, Paper, Pen, Row, Screen, blankRow, blankScreen, combine, markAt, onRow, placed, put, putPen, room, rowsFrom, takes, wipeFrom}
 use Rattle.screen.specs.declared.cells.Parameters.{Parameters}
 use Rattle.screen.specs.declared.cells.Parameters.the-variants.{Bare, Mode, Number, Numbers, Other}
@@ -25,134 +25,167 @@ pub row-other : (r : ℕ) (f : Row → Row) (p : Paper) (i j : ℕ) → r < i �
 unfolding onRow
 row-other r f p i j h = cond-both (eqb i r) _ _ (λ (w : Row). w j ≡ p i j) (λ t. absurd (omega (arith, eqb-true i r t))) (λ t. refl)
 
--- every row of the paper is formed
-unfoldable pub AllFormed : Geometry → Paper → Type 0
-AllFormed d p = (i : ℕ) → Formed d (p i)
+-- a property of rows that the changes of a row keep: that it is formed, or nothing at all
+pub record Lasting (d : Geometry) (F : Row → Type 0) : Type 0 where
+  pub blank : F blankRow
+  pub wipe : (a : ℕ) (f : Row) → F f → F (wipeFrom a f)
+  pub mark : (m a : ℕ) (f : Row) → d .width m ≡ 0 → F f → F (markAt m a f)
+  pub place : (c a : ℕ) (f : Row) → 0 < d .width c → d .width c ≤ 2 → a + d .width c ≤ d .cols → F f → F (placed (d .width c) c a f)
 
-formed-row : (d : Geometry) (r : ℕ) (f : Row → Row) (p : Paper) → ((g : Row) → Formed d g → Formed d (f g)) → AllFormed d p → AllFormed d (onRow r f p)
-unfolding AllFormed onRow
-formed-row d r f p h w i = cond-both (eqb i r) (f (p i)) (p i) (Formed d) (λ t. h (p i) (w i)) (λ t. w i)
+pub formed-lasting : (d : Geometry) → Lasting d (Formed d)
+formed-lasting d = record { blank = formed-blank d; wipe = formed-wipe d; mark = formed-mark d; place = formed-placed d }
 
-formed-rows : (d : Geometry) (a b : ℕ) (p : Paper) → AllFormed d p → AllFormed d (rowsFrom a b p)
-unfolding AllFormed rowsFrom
-formed-rows d a b p w i = cond-both (leb a i && leb i b) blankRow (p i) (Formed d) (λ t. formed-blank d) (λ t. w i)
+pub any-lasting : (d : Geometry) → Lasting d (λ f. Unit {0})
+any-lasting d = record { blank = tt; wipe = λ a f h. h; mark = λ m a f e h. h; place = λ c a f x y z h. h }
 
--- what a character leaves: the column within the row, the rows below the cursor as they were, and formed rows
-pub record Fine (d : Geometry) (p q : Pen) : Type 0 where
-  pub fit : q .col ≤ d .cols
-  pub far : (i j : ℕ) → q .row < i → q .paper i j ≡ p .paper i j
-  pub form : AllFormed d (p .paper) → AllFormed d (q .paper)
+-- every row of the paper has it
+Rows : (Row → Type 0) → Paper → Type 0
+Rows F p = (i : ℕ) → F (p i)
 
-fine-cond : (d : Geometry) (b : Bool) (p x y : Pen) → Fine d p x → Fine d p y → Fine d p (cond b x y)
-fine-cond d true p x y h k = h
-fine-cond d false p x y h k = k
+-- what a screen keeps, with the rows' property
+pub record Held (d : Geometry) (F : Row → Type 0) (s : Screen) : Type 0 where
+  pub kept : Kept d s
+  pub rows : (i : ℕ) → F (s .pen .paper i)
 
-fine-combine : (d : Geometry) (o : Option ℕ) (c : ℕ) (p : Pen) → d .width c ≡ 0 → p .col ≤ d .cols → Fine d p (combine o c p)
-fine-combine d None c p e h = record { fit = h; far = λ i j l. refl; form = λ w. w }
-fine-combine d (Some k) c p e h = record { fit = h; far = λ i j l. row-other (p .row) (markAt c k) (p .paper) i j l; form = formed-row d (p .row) (markAt c k) (p .paper) (λ g. formed-mark d c k g e) }
+module _ (d : Geometry) (F : Row → Type 0) (lasts : Lasting d F) (tall : 0 < d .rows) (broad : 2 ≤ d .cols) (w : (c : ℕ) → d .width c ≤ 2) where
+  on-row : (r : ℕ) (f : Row → Row) (p : Paper) → ((g : Row) → F g → F (f g)) → Rows F p → Rows F (onRow r f p)
+  unfolding Rows onRow
+  on-row r f p h x i = cond-both (eqb i r) (f (p i)) (p i) F (λ t. h (p i) (x i)) (λ t. x i)
 
-fine-takes : (d : Geometry) (c : ℕ) (p : Pen) → 0 < d .width c → d .width c ≤ 2 → 2 ≤ d .cols → p .col ≤ d .cols → Fine d p (takes (d .width c) c (room (ltb (d .cols) (p .col + d .width c)) p))
-fine-takes d c p pos two h k = go (ltb (d .cols) (p .col + d .width c)) refl
-  where
-    go : (b : Bool) → ltb (d .cols) (p .col + d .width c) ≡ b → Fine d p (takes (d .width c) c (room b p))
-    go true e = record { fit = omega arith; far = λ i j l. row-other (suc (p .row)) (placed (d .width c) c 0) (p .paper) i j l; form = formed-row d (suc (p .row)) (placed (d .width c) c 0) (p .paper) (λ g. formed-placed d c 0 g pos two (omega arith)) }
-    go false e = let l = ltb-false (d .cols) (p .col + d .width c) e in record { fit = l; far = λ i j m. row-other (p .row) (placed (d .width c) c (p .col)) (p .paper) i j m; form = formed-row d (p .row) (placed (d .width c) c (p .col)) (p .paper) (λ g. formed-placed d c (p .col) g pos two l) }
+  rows-from : (a b : ℕ) (p : Paper) → Rows F p → Rows F (rowsFrom a b p)
+  unfolding Rows rowsFrom
+  rows-from a b p x i = cond-both (leb a i && leb i b) blankRow (p i) F (λ t. lasts .blank) (λ t. x i)
 
-pub fine-put : (d : Geometry) (c : ℕ) (p : Pen) → d .width c ≤ 2 → 2 ≤ d .cols → p .col ≤ d .cols → Fine d p (putPen d c p)
-unfolding putPen
-fine-put d c p two broad k =
-    fine-cond d (isControl c) p _ _ (fine-cond d (eqb c 10) p _ _ (record { fit = omega arith; far = λ i j l. refl; form = λ w. w }) (fine-cond d (eqb c 13) p _ _ (record { fit = omega arith; far = λ i j l. refl; form = λ w. w }) (record { fit = k; far = λ i j l. refl; form = λ w. w })))
-    (cond-both (eqb (d .width c) 0) _ _ (Fine d p) (λ t. fine-combine d (p .join) c p (eqb-true (d .width c) 0 t) k) (λ t. fine-takes d c p (omega (arith, eqb-false (d .width c) 0 t)) two broad k))
+  -- what a character leaves: the column within the row, the rows below the cursor as they were, and the rows' property
+  record Fine (p q : Pen) : Type 0 where
+    fit : q .col ≤ d .cols
+    far : (i j : ℕ) → q .row < i → q .paper i j ≡ p .paper i j
+    form : Rows F (p .paper) → Rows F (q .paper)
 
-module _ (d : Geometry) (tall : 0 < d .rows) (broad : 2 ≤ d .cols) (w : (c : ℕ) → d .width c ≤ 2) where
-  kept-cond : (b : Bool) (x y : Screen) → Kept d x → Kept d y → Kept d (cond b x y)
-  kept-cond true x y h k = h
-  kept-cond false x y h k = k
+  fine-cond : (b : Bool) (p x y : Pen) → Fine p x → Fine p y → Fine p (cond b x y)
+  fine-cond true p x y h k = h
+  fine-cond false p x y h k = k
+
+  fine-still : (j : ℕ) (o : Option ℕ) (i : ℕ) (p : Pen) → j ≤ d .cols → Fine p (record { paper = p .paper; row = i; col = j; join = o })
+  fine-still j o i p h = record { fit = h; far = λ i j l. refl; form = λ x. x }
+
+  fine-combine : (o : Option ℕ) (c : ℕ) (p : Pen) → d .width c ≡ 0 → p .col ≤ d .cols → Fine p (combine o c p)
+  fine-combine None c p e h = record { fit = h; far = λ i j l. refl; form = λ x. x }
+  fine-combine (Some k) c p e h = record { fit = h; far = λ i j l. row-other (p .row) (markAt c k) (p .paper) i j l; form = on-row (p .row) (markAt c k) (p .paper) (λ g. lasts .mark c k g e) }
+
+  fine-takes : (c : ℕ) (p : Pen) → 0 < d .width c → p .col ≤ d .cols → Fine p (takes (d .width c) c (room (ltb (d .cols) (p .col + d .width c)) p))
+  fine-takes c p pos k = go (ltb (d .cols) (p .col + d .width c)) refl
+    where
+      go : (b : Bool) → ltb (d .cols) (p .col + d .width c) ≡ b → Fine p (takes (d .width c) c (room b p))
+      go true e = let two = w c in record { fit = omega arith; far = λ i j l. row-other (suc (p .row)) (placed (d .width c) c 0) (p .paper) i j l; form = on-row (suc (p .row)) (placed (d .width c) c 0) (p .paper) (λ g. lasts .place c 0 g pos two (omega arith)) }
+      go false e = let l = ltb-false (d .cols) (p .col + d .width c) e in record { fit = l; far = λ i j m. row-other (p .row) (placed (d .width c) c (p .col)) (p .paper) i j m; form = on-row (p .row) (placed (d .width c) c (p .col)) (p .paper) (λ g. lasts .place c (p .col) g pos (w c) l) }
+
+  fine-put : (c : ℕ) (p : Pen) → p .col ≤ d .cols → Fine p (putPen d c p)
+  unfolding putPen
+  fine-put c p k =
+      fine-cond (isControl c) p _ _ (fine-cond (eqb c 10) p _ _ (fine-still 0 None (suc (p .row)) p (omega arith)) (fine-cond (eqb c 13) p _ _ (fine-still 0 None (p .row) p (omega arith)) (fine-still (p .col) None (p .row) p k)))
+      (cond-both (eqb (d .width c) 0) _ _ (Fine p) (λ t. fine-combine (p .join) c p (eqb-true (d .width c) 0 t) k) (λ t. fine-takes c p (omega (arith, eqb-false (d .width c) 0 t)) k))
+
+  held-cond : (b : Bool) (x y : Screen) → Held d F x → Held d F y → Held d F (cond b x y)
+  held-cond true x y h k = h
+  held-cond false x y h k = k
 
   -- another parser state, mark or joining
-  kept-same : (h : Bool) (m : Parser) (o : Option ℕ) (s : Screen) → Kept d s → Kept d (record { pen = record { paper = s .pen .paper; row = s .pen .row; col = s .pen .col; join = o }; top = s .top; held = h; parser = m })
-  kept-same h m o s k = record { above = k .above; inside = k .inside; fits = k .fits; below = k .below; formed = k .formed }
+  held-same : (h : Bool) (m : Parser) (o : Option ℕ) (s : Screen) → Held d F s → Held d F (record { pen = record { paper = s .pen .paper; row = s .pen .row; col = s .pen .col; join = o }; top = s .top; held = h; parser = m })
+  held-same h m o s k = record { kept = record { above = k .kept .above; inside = k .kept .inside; fits = k .kept .fits; below = k .kept .below }; rows = k .rows }
 
-  kept-into : (m : Parser) (s : Screen) → Kept d s → Kept d (into m s)
-  kept-into m s k = kept-same (s .held) m (s .pen .join) s k
+  held-into : (m : Parser) (s : Screen) → Held d F s → Held d F (into m s)
+  held-into m s k = held-same (s .held) m (s .pen .join) s k
 
-  kept-dropped : (s : Screen) → Kept d s → Kept d (dropped s)
-  kept-dropped s k = kept-same (s .held) Ground None s k
+  held-dropped : (s : Screen) → Held d F s → Held d F (dropped s)
+  held-dropped s k = held-same (s .held) Ground None s k
 
-  kept-put : (c : ℕ) (s : Screen) → Kept d s → Kept d (put d c s)
-  unfolding AllFormed
-  kept-put c s k =
-      let f = fine-put d c (s .pen) (w c) broad (k .fits) in
+  held-put : (c : ℕ) (s : Screen) → Held d F s → Held d F (put d c s)
+  unfolding Rows
+  held-put c s k =
+      let f = fine-put c (s .pen) (k .kept .fits) in
       let m = put-down d c (s .pen) in
-      record { above = omega arith; inside = omega arith; fits = f .fit; below = λ i j l. f .far i j (omega arith) ∙ k .below i j (omega arith); formed = f .form (k .formed) }
+      record { kept = record { above = omega arith; inside = omega arith; fits = f .fit; below = λ i j l. f .far i j (omega arith) ∙ k .kept .below i j (omega arith) }; rows = f .form (k .rows) }
 
-  kept-at : (i j : ℕ) (s : Screen) → Kept d s → s .top ≤ i → i < s .top + d .rows → j ≤ d .cols → Kept d (at i j s)
-  kept-at i j s k a b c = record { above = a; inside = b; fits = c; below = k .below; formed = k .formed }
+  held-at : (i j : ℕ) (s : Screen) → Held d F s → s .top ≤ i → i < s .top + d .rows → j ≤ d .cols → Held d F (at i j s)
+  held-at i j s k a b c = record { kept = record { above = a; inside = b; fits = c; below = k .kept .below }; rows = k .rows }
 
-  kept-begin : (b : ℕ) (s : Screen) → Kept d s → Kept d (begin d b s)
+  held-begin : (b : ℕ) (s : Screen) → Held d F s → Held d F (begin d b s)
   unfolding begin
-  kept-begin b s k =
-      kept-cond (ltb b 128) _ _ (kept-put b s k)
-      (kept-cond (within 194 223 b) _ _ (kept-into _ s k)
-      (kept-cond (eqb b 224) _ _ (kept-into _ s k)
-      (kept-cond (eqb b 237) _ _ (kept-into _ s k)
-      (kept-cond (within 225 239 b) _ _ (kept-into _ s k)
-      (kept-cond (eqb b 240) _ _ (kept-into _ s k)
-      (kept-cond (within 241 243 b) _ _ (kept-into _ s k)
-      (kept-cond (eqb b 244) _ _ (kept-into _ s k) (kept-dropped s k))))))))
+  held-begin b s k =
+      held-cond (ltb b 128) _ _ (held-put b s k)
+      (held-cond (within 194 223 b) _ _ (held-into _ s k)
+      (held-cond (eqb b 224) _ _ (held-into _ s k)
+      (held-cond (eqb b 237) _ _ (held-into _ s k)
+      (held-cond (within 225 239 b) _ _ (held-into _ s k)
+      (held-cond (eqb b 240) _ _ (held-into _ s k)
+      (held-cond (within 241 243 b) _ _ (held-into _ s k)
+      (held-cond (eqb b 244) _ _ (held-into _ s k) (held-dropped s k))))))))
 
-  kept-paper : (q : Paper) (s : Screen) → Kept d s → ((i k : ℕ) → s .top + d .rows ≤ i → q i k ≡ s .pen .paper i k) → AllFormed d q → Kept d (inked q s)
-  unfolding AllFormed
-  kept-paper q s k h f = record { above = k .above; inside = k .inside; fits = k .fits; below = λ a c m. h a c m ∙ k .below a c m; formed = f }
+  held-paper : (q : Paper) (s : Screen) → Held d F s → ((i k : ℕ) → s .top + d .rows ≤ i → q i k ≡ s .pen .paper i k) → Rows F q → Held d F (inked q s)
+  unfolding Rows
+  held-paper q s k h f = record { kept = record { above = k .kept .above; inside = k .kept .inside; fits = k .kept .fits; below = λ a c m. h a c m ∙ k .kept .below a c m }; rows = f }
 
   rows-other : (a b : ℕ) (p : Paper) (i j : ℕ) → b < i → rowsFrom a b p i j ≡ p i j
   unfolding rowsFrom
   rows-other a b p i j h = cond-both (leb a i && leb i b) _ _ (λ (f : Row). f j ≡ p i j) (λ t. absurd (omega (arith, leb-true i b (and-parts (leb a i) (leb i b) t .1)))) (λ t. refl)
 
-  formed-wiped : (s : Screen) → Kept d s → AllFormed d (wiped d s)
-  unfolding AllFormed
-  formed-wiped s k = formed-row d (s .pen .row) (wipeFrom (column d s)) (s .pen .paper) (formed-wipe d (column d s)) (k .formed)
+  rows-wiped : (s : Screen) → Held d F s → Rows F (wiped d s)
+  unfolding Rows
+  rows-wiped s k = on-row (s .pen .row) (wipeFrom (column d s)) (s .pen .paper) (lasts .wipe (column d s)) (k .rows)
 
-  kept-move : (b n : ℕ) (s : Screen) → Kept d s → Kept d (move d b n s)
+  held-move : (b n : ℕ) (s : Screen) → Held d F s → Held d F (move d b n s)
   unfolding move
-  kept-move b n s k =
-      kept-cond (eqb b 65) _ _ (kept-at _ _ s k (omega arith) (omega arith) (omega arith))
-      (kept-cond (eqb b 66) _ _ (kept-at _ _ s k (omega arith) (omega arith) (omega arith))
-      (kept-cond (eqb b 67) _ _ (kept-at _ _ s k (omega arith) (omega arith) (omega arith))
-      (kept-cond (eqb b 68) _ _ (kept-at _ _ s k (omega arith) (omega arith) (omega arith)) (kept-dropped s k))))
+  held-move b n s k =
+      let c = k .kept in
+      held-cond (eqb b 65) _ _ (held-at _ _ s k (omega arith) (omega arith) (omega arith))
+      (held-cond (eqb b 66) _ _ (held-at _ _ s k (omega arith) (omega arith) (omega arith))
+      (held-cond (eqb b 67) _ _ (held-at _ _ s k (omega arith) (omega arith) (omega arith))
+      (held-cond (eqb b 68) _ _ (held-at _ _ s k (omega arith) (omega arith) (omega arith)) (held-dropped s k))))
 
-  kept-act : (p : Parameters) (b : ℕ) (s : Screen) → Kept d s → Kept d (act d p b s)
+  held-act : (p : Parameters) (b : ℕ) (s : Screen) → Held d F s → Held d F (act d p b s)
   unfolding act
-  kept-act Bare b s k =
-      kept-cond (eqb b 72) _ _ (kept-at (s .top) 0 s k (omega arith) (omega arith) (omega arith))
-      (kept-cond (eqb b 74) _ _ (kept-paper _ s k (λ i j m. rows-other (suc (s .pen .row)) (bottom d s) (wiped d s) i j (omega arith) ∙ row-other (s .pen .row) (wipeFrom (column d s)) (s .pen .paper) i j (omega arith)) (formed-rows d (suc (s .pen .row)) (bottom d s) (wiped d s) (formed-wiped s k)))
-      (kept-cond (eqb b 75) _ _ (kept-paper (wiped d s) s k (λ i j m. row-other (s .pen .row) (wipeFrom (column d s)) (s .pen .paper) i j (omega arith)) (formed-wiped s k)) (kept-move b 1 s k)))
-  kept-act (Number n) b s k = kept-move b (max 1 n) s k
-  kept-act (Numbers n) b s k = kept-move b (max 1 n) s k
-  kept-act (Mode n) b s k = kept-cond (eqb n 5) _ _ (kept-cond (eqb b 104) _ _ (kept-same true Ground None s k) (kept-cond (eqb b 108) _ _ (kept-same false Ground None s k) (kept-dropped s k))) (kept-dropped s k)
-  kept-act Other b s k = kept-dropped s k
+  held-act Bare b s k =
+      let c = k .kept in
+      held-cond (eqb b 72) _ _ (held-at (s .top) 0 s k (omega arith) (omega arith) (omega arith))
+      (held-cond (eqb b 74) _ _ (held-paper _ s k (λ i j m. rows-other (suc (s .pen .row)) (bottom d s) (wiped d s) i j (omega arith) ∙ row-other (s .pen .row) (wipeFrom (column d s)) (s .pen .paper) i j (omega arith)) (rows-from (suc (s .pen .row)) (bottom d s) (wiped d s) (rows-wiped s k)))
+      (held-cond (eqb b 75) _ _ (held-paper (wiped d s) s k (λ i j m. row-other (s .pen .row) (wipeFrom (column d s)) (s .pen .paper) i j (omega arith)) (rows-wiped s k)) (held-move b 1 s k)))
+  held-act (Number n) b s k = held-move b (max 1 n) s k
+  held-act (Numbers n) b s k = held-move b (max 1 n) s k
+  held-act (Mode n) b s k = held-cond (eqb n 5) _ _ (held-cond (eqb b 104) _ _ (held-same true Ground None s k) (held-cond (eqb b 108) _ _ (held-same false Ground None s k) (held-dropped s k))) (held-dropped s k)
+  held-act Other b s k = held-dropped s k
 
-  kept-finish : (p : Parameters) (b : ℕ) (s : Screen) → Kept d s → Kept d (finish d p b s)
+  held-finish : (p : Parameters) (b : ℕ) (s : Screen) → Held d F s → Held d F (finish d p b s)
   unfolding finish
-  kept-finish p b s k = kept-cond (eqb b 109) _ _ (kept-into Ground s k) (kept-act p b s k)
+  held-finish p b s k = held-cond (eqb b 109) _ _ (held-into Ground s k) (held-act p b s k)
 
-  kept-continue : (p : Partial) (b : ℕ) (s : Screen) → Kept d s → Kept d (continue d p b s)
-  kept-continue p b s k = kept-cond (ltb (p .left) 2) _ _ (kept-put _ s k) (kept-into _ s k)
+  held-continue : (p : Partial) (b : ℕ) (s : Screen) → Held d F s → Held d F (continue d p b s)
+  held-continue p b s k = held-cond (ltb (p .left) 2) _ _ (held-put _ s k) (held-into _ s k)
 
-  kept-step : (m : Parser) (b : ℕ) (s : Screen) → Kept d s → Kept d (stepIn d m b s)
+  held-step : (m : Parser) (b : ℕ) (s : Screen) → Held d F s → Held d F (stepIn d m b s)
   unfolding stepIn
-  kept-step Ground b s k = kept-begin b s k
-  kept-step Escape b s k = kept-cond (eqb b 91) _ _ (kept-into _ s k) (kept-dropped s k)
-  kept-step (Sequence p) b s k =
-      kept-cond (within 48 63 b) _ _ (kept-into _ s k) (kept-cond (within 64 126 b) _ _ (kept-finish p b s k) (kept-dropped s k))
-  kept-step (Character p) b s k = kept-cond (within (p .low) (p .high) b) _ _ (kept-continue p b s k) (kept-begin b (dropped s) (kept-dropped s k))
+  held-step Ground b s k = held-begin b s k
+  held-step Escape b s k = held-cond (eqb b 91) _ _ (held-into _ s k) (held-dropped s k)
+  held-step (Sequence p) b s k =
+      held-cond (within 48 63 b) _ _ (held-into _ s k) (held-cond (within 64 126 b) _ _ (held-finish p b s k) (held-dropped s k))
+  held-step (Character p) b s k = held-cond (within (p .low) (p .high) b) _ _ (held-continue p b s k) (held-begin b (dropped s) (held-dropped s k))
 
+  held-feed : (bs : List ℕ) (s : Screen) → Held d F s → Held d F (feed d bs s)
+  held-feed [] s k = k
+  held-feed (b ∷ bs) s k = held-feed bs (step d b s) (held-cond (eqb b 27) _ _ (held-same (s .held) Escape (joinAfter (s .parser) (s .pen .join)) s k) (held-step (s .parser) b s k))
+
+module _ (d : Geometry) (tall : 0 < d .rows) (broad : 2 ≤ d .cols) (w : (c : ℕ) → d .width c ≤ 2) where
   pub kept-feed : (bs : List ℕ) (s : Screen) → Kept d s → Kept d (feed d bs s)
-  kept-feed [] s k = k
-  kept-feed (b ∷ bs) s k = kept-feed bs (step d b s) (kept-cond (eqb b 27) _ _ (kept-same (s .held) Escape (joinAfter (s .parser) (s .pen .join)) s k) (kept-step (s .parser) b s k))
+  kept-feed bs s k = held-feed d (λ f. Unit {0}) (any-lasting d) tall broad w bs s (record { kept = k; rows = λ i. tt }) .kept
+
+  pub formed-feed : (bs : List ℕ) (s : Screen) → Kept d s → AllFormed d s → AllFormed d (feed d bs s)
+  formed-feed bs s k f = held-feed d (Formed d) (formed-lasting d) tall broad w bs s (record { kept = k; rows = f }) .rows
 
   pub kept-blank : Kept d blankScreen
-  kept-blank = record { above = omega arith; inside = omega arith; fits = omega arith; below = λ i j l. refl; formed = λ i. formed-blank d }
+  kept-blank = record { above = omega arith; inside = omega arith; fits = omega arith; below = λ i j l. refl }
 
-pub keeps-proof : Keeps
-keeps-proof d tall broad w = (kept-blank d tall broad w, kept-feed d tall broad w)
+pub keeps-proof : AlwaysKept
+keeps-proof d tall broad w = record {
+    start = (kept-blank d tall broad w, λ i. formed-blank d);
+    kept = kept-feed d tall broad w;
+    formed = formed-feed d tall broad w }

@@ -99,17 +99,25 @@ pub record Formed (d : Geometry) (f : Row) : Type 0 where
   pub cells : (j : ℕ) → cellFits d (f j) ≡ true
   pub past : (j : ℕ) → d .cols ≤ j → f j ≡ Blank
 
--- what holds of a screen whatever bytes it has taken: the cursor stands in the window, nothing stands below the window, every row is formed
+-- what holds of a screen whatever bytes it has taken: the cursor stands in the window, and nothing stands below the window
 pub record Kept (d : Geometry) (s : Screen) : Type 0 where
   pub above : s .top ≤ s .pen .row
   pub inside : s .pen .row < s .top + d .rows
   pub fits : s .pen .col ≤ d .cols
   pub below : (i j : ℕ) → s .top + d .rows ≤ i → s .pen .paper i j ≡ Blank
-  pub formed : (i : ℕ) → Formed d (s .pen .paper i)
+
+-- every row is formed
+abbrev pub AllFormed : Geometry → Screen → Type 0
+AllFormed d s = (i : ℕ) → Formed d (s .pen .paper i)
 
 -- a blank screen has all this, and no byte takes it away
-abbrev pub Keeps : Type 0
-Keeps = (d : Geometry) → 0 < d .rows → 2 ≤ d .cols → ((c : ℕ) → d .width c ≤ 2) → Kept d blankScreen × ((bs : List ℕ) (s : Screen) → Kept d s → Kept d (feed d bs s))
+pub record Keeps (d : Geometry) : Type 0 where
+  pub start : Kept d blankScreen × AllFormed d blankScreen
+  pub kept : (bs : List ℕ) (s : Screen) → Kept d s → Kept d (feed d bs s)
+  pub formed : (bs : List ℕ) (s : Screen) → Kept d s → AllFormed d s → AllFormed d (feed d bs s)
+
+abbrev pub AlwaysKept : Type 0
+AlwaysKept = (d : Geometry) → 0 < d .rows → 2 ≤ d .cols → ((c : ℕ) → d .width c ≤ 2) → Keeps d
 
 -- home and erase, from wherever the cursor stands and whatever is unfinished
 abbrev pub Clears : Type 0

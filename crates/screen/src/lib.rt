@@ -1,6 +1,6 @@
 //! What bytes do to a screen: definitions and laws.
 pub mod cells;
-ghost use Rattle.screen.specs.Laws.{Clears, Draws, Erases, Feeds, Keeps, Moves, Style, Utf};
+ghost use Rattle.screen.specs.Laws.{AlwaysKept, Clears, Draws, Erases, Feeds, Moves, Style, Utf};
 ghost use Rattle.screen.specs.Pages.{Inserts, Refreshes};
 
 pub fn style() -> u8
@@ -58,7 +58,7 @@ pub fn clears() -> u8
 }
 
 pub fn keeps() -> u8
-    ensures { λ _. ⌜ Keeps ⌝ }
+    ensures { λ _. ⌜ AlwaysKept ⌝ }
 {
     0
 }
