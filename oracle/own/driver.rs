@@ -13,6 +13,7 @@ use crate::hint::Hinter;
 use crate::history::NoHistory;
 use crate::keymap::Refresher as _;
 use crate::layout::{Position, Unit};
+use crate::rules::{Cell, Model, OURS, Screen};
 use crate::tty::{Renderer as _, hold_count, make};
 use crate::validate::Validator;
 use crate::{Context, Helper};
@@ -153,7 +154,7 @@ fn session(set: &Settings, acts: &[Act], raw_hints: bool, gate: bool, reports: &
     let prompt = (set.raw.clone(), set.styled.clone());
     let history = NoHistory;
     let mut s = State::new(&mut writer, &prompt, Some(&aid), Context::new(&history));
-    let mut m = crate::rules::Model::new(set, crate::rules::OURS);
+    let mut m = Model::new(set, OURS);
     let (mut torn, mut dead) = (false, false);
     for act in acts {
         if gate || matches!(act, Act::Bad(_)) {
@@ -207,7 +208,7 @@ pub fn escape(b: &[u8]) -> String {
     for &c in b {
         match c {
             27 => s.push_str("\\e"), b'\n' => s.push_str("\\n"), b'\r' => s.push_str("\\r"), b'\\' => s.push_str("\\\\"), b'"' => s.push_str("\\\""),
-            c if c < 0x20 || c >= 0x7f => s.push_str(&format!("\\x{c:02x}")),
+            c if c < 0x20 || c >= 0x7f => s.push_str(&format!("\\x{c:02X}")),
             c => s.push(c as char),
         }
     }
@@ -286,7 +287,7 @@ fn directive(set: &mut Settings, line: &[u8]) -> Result<Option<Act>, String> {
             let r = std::str::from_utf8(r).unwrap_or("").trim();
             if word == "set" { return Ok(Some(Act::Set(a, num(Some(r))?))); }
             let mut it = a.chars();
-            return match (it.next(), it.next()) { (Some(c), None) => Ok(Some(Act::Insert(c, num(Some(r))?))), _ => Err("one character expected".into()) };
+            return match (it.next(), it.next()) { (Some(c), None) => Ok(Some(Act::Insert(c, num(Some(r))?))), _ => Ok(Some(Act::Bad("insert"))) };
         }
         "message" => return Ok(Some(text(quoted(rest)?.0).map_or(Act::Bad("message"), Act::Message))),
         "notice" => return Ok(Some(text(quoted(rest)?.0).map_or(Act::Bad("notice"), Act::Notice))),
@@ -308,55 +309,127 @@ pub fn print(r: &Report, layout: bool) -> String {
     }
     s
 }
-fn arg_text(a: &str) -> String {
-    let v = if a.starts_with('"') { quoted(a.as_bytes()) } else { quoted(format!("\"{a}\"").as_bytes()).map(|x| (x.0, &b""[..])) };
-    String::from_utf8(v.expect("text").0).expect("UTF-8")
+fn arg_bytes(a: &str) -> Vec<u8> {
+    let v = if a.starts_with('"') { quoted(a.as_bytes()).map(|x| x.0) } else { quoted(format!("\"{a}\"").as_bytes()).map(|x| x.0) };
+    v.expect("text")
+}
+fn arg_text(a: &str) -> String { String::from_utf8(arg_bytes(a)).expect("UTF-8") }
+fn table(a: &str) { unicode_width::set_eastern(match a { "latin" => false, "eastern" => true, _ => panic!("latin|eastern") }); }
+
+/// the acts by our rules, without the crate: its reports have the form of the crate's
+fn run_ours(set: &Settings, acts: &[Act]) -> Result<Vec<(Report, Screen)>, String> {
+    if !set.faults.is_empty() { return Err("the model of our rules knows no faults".into()); }
+    unicode_width::set_eastern(set.eastern);
+    let mut screen = Screen::new(set.cols as usize, set.rows as usize);
+    let mut m = Model::new(set, OURS);
+    let mut out = Vec::new();
+    for act in acts {
+        if matches!(act, Act::Create) {
+            m = Model::new(set, OURS);
+            m.upper = screen.paper.clone();
+            m.upper.resize(screen.row, vec![Cell::Blank; screen.cols]);
+            m.top = screen.top;
+        }
+        let no = if matches!(act, Act::Create) { crate::rules::checked(set).or_else(|| m.refused(act)) } else { m.refused(act) };
+        let writes = if no.is_some() { vec![] } else { m.act(act) };
+        for w in &writes { screen.bytes(w); }
+        if no.is_none() { m.page(&screen)?; }
+        let xy = |p: (u32, u32)| (p.0 as Unit, p.1 as Unit);
+        let lay = Lay { prompt: xy(m.lay.prompt), cursor: xy(m.lay.cursor), end: xy(m.lay.end), info: m.lay.info, hint: m.hint.clone(), lit: m.lit, holds: 0, line: m.line.clone(), pos: m.pos };
+        let outcome = no.map_or(Outcome::Accepted, Outcome::Refused);
+        out.push((Report { name: act.name(), outcome, taken: vec![], worked: writes.concat(), writes, max_interrupts: 0, lay: Some(lay) }, screen.clone()));
+    }
+    Ok(out)
+}
+/// one measurement, `COLS TAB TABLE COL ROW TEXT`: the crate's answer, or ours
+fn place(a: &[String], ours: bool) -> String {
+    let n = |i: usize| a[i].parse::<u16>().expect("number");
+    table(&a[2]);
+    let t = arg_text(&a[5]);
+    if ours {
+        if !(2..=500).contains(&n(0)) || !(1..=32).contains(&n(1)) || n(3) > 500 || n(4) > 60000 { return "refused 1 size".into(); }
+        if t.len() > 4096 { return "refused 4 long".into(); }
+        let (col, row) = crate::rules::measure(n(0), n(1), (n(3).into(), n(4).into()), &t);
+        return format!("column {col} row {row}");
+    }
+    let r = make(n(0), 24, n(1), false, false);
+    match catch_unwind(AssertUnwindSafe(|| r.calculate_position(&t, Position { col: n(3), row: n(4) }))) {
+        Ok(p) => format!("column {} row {}", p.col, p.row),
+        Err(e) => format!("panic {}", message_of(e)),
+    }
+}
+/// one bracket look, `LINE POS`: check_bracket, highlight_char and highlight of the crate
+fn bracket(a: &[String]) -> String {
+    let l = arg_text(&a[0]);
+    let pos: usize = a[1].parse().expect("number");
+    let m = MatchingBracketHighlighter::new();
+    let found = crate::bracket_probe::check(&l, pos).map_or("none".to_string(), |(b, p)| format!("{} at {p}", b as char));
+    let yes = m.highlight_char(&l, pos, CmdKind::Other);
+    format!("bracket {found} char {} line {}", if yes { "yes" } else { "no" }, escape(m.highlight(&l, pos).as_bytes()))
+}
+/// words and quoted strings of one line
+fn split(l: &[u8]) -> Vec<String> {
+    let mut v = Vec::new();
+    let mut l = l.trim_ascii();
+    while !l.is_empty() {
+        let rest = if l[0] == b'"' { quoted(l).expect("text").1 } else { &l[l.iter().position(|&c| c == b' ').unwrap_or(l.len())..] };
+        v.push(String::from_utf8(l[..l.len() - rest.len()].to_vec()).expect("UTF-8"));
+        l = rest.trim_ascii_start();
+    }
+    v
+}
+/// the arguments, or one case a line from standard input where there are none
+fn each(a: &[String], answer: impl Fn(&[String]) -> String) {
+    if !a.is_empty() { return println!("{}", answer(a)); }
+    for l in stdin().split(|&c| c == b'\n') { if !l.trim_ascii().is_empty() && l[0] != b'#' { println!("{}", answer(&split(l))); } }
+}
+fn stdin() -> Vec<u8> {
+    let mut b = Vec::new();
+    std::io::stdin().read_to_end(&mut b).unwrap();
+    b
+}
+fn script() -> (Settings, Vec<Act>) {
+    let mut set = Settings::default();
+    let mut acts = Vec::new();
+    for (n, l) in stdin().split(|&c| c == b'\n').enumerate() {
+        match directive(&mut set, l) {
+            Ok(Some(x)) => acts.push(x),
+            Ok(None) => {}
+            Err(e) => { eprintln!("line {}: {e}", n + 1); std::process::exit(1); }
+        }
+    }
+    (set, acts)
 }
 
 pub fn main() {
     std::panic::set_hook(Box::new(|_| {}));
-    let a: Vec<String> = std::env::args().collect();
-    match a.get(1).map(|s| s.as_str()) {
+    let a: Vec<String> = std::env::args().skip(1).collect();
+    let flag = |f: &str| a.iter().any(|x| x == f);
+    let rest: Vec<String> = a.iter().skip(1).filter(|x| *x != "--ours").cloned().collect();
+    match a.first().map(|s| s.as_str()) {
         Some("acts") => {
-            let layout = a.iter().any(|x| x == "--layout");
-            let raw = a.iter().any(|x| x == "--raw-hints");
-            let mut b = Vec::new();
-            std::io::stdin().read_to_end(&mut b).unwrap();
-            let mut set = Settings::default();
-            let mut acts = Vec::new();
-            for (n, l) in b.split(|&c| c == b'\n').enumerate() {
-                match directive(&mut set, l) {
-                    Ok(Some(x)) => acts.push(x),
-                    Ok(None) => {}
-                    Err(e) => { eprintln!("line {}: {e}", n + 1); std::process::exit(2); }
-                }
-            }
-            let gate = a.iter().any(|x| x == "--gate");
-            for r in run_gated(&set, &acts, raw, gate) { std::print!("{}", print(&r, layout)); }
-        }
-        Some("place") => {
-            let n = |i: usize| a[i].parse::<u16>().expect("number");
-            unicode_width::set_eastern(match a[4].as_str() { "latin" => false, "eastern" => true, _ => panic!("latin|eastern") });
-            let r = make(n(2), 24, n(3), false, false);
-            let t = arg_text(&a[7]);
-            match catch_unwind(AssertUnwindSafe(|| r.calculate_position(&t, Position { col: n(5), row: n(6) }))) {
-                Ok(p) => println!("column {} row {}", p.col, p.row),
-                Err(e) => println!("panic {}", message_of(e)),
+            let (set, acts) = script();
+            let both = if flag("--ours") {
+                run_ours(&set, &acts).unwrap_or_else(|e| { eprintln!("{e}"); std::process::exit(1) })
+            } else {
+                let mut s = Screen::new(set.cols as usize, set.rows as usize);
+                run_gated(&set, &acts, flag("--raw-hints"), flag("--gate")).into_iter().map(|r| { s.bytes(&r.worked); (r, s.clone()) }).collect()
+            };
+            for (r, s) in both {
+                std::print!("{}", print(&r, flag("--layout")));
+                if flag("--screen") { std::print!("{}", s.show()); }
             }
         }
-        Some("bracket") => {
-            let l = arg_text(&a[2]);
-            let pos: usize = a[3].parse().expect("number");
-            let m = MatchingBracketHighlighter::new();
-            match crate::bracket_probe::check(&l, pos) {
-                None => println!("bracket none"),
-                Some((b, p)) => println!("bracket {} at {p}", b as char),
-            }
-            let yes = m.highlight_char(&l, pos, CmdKind::Other);
-            println!("char {}", if yes { "yes" } else { "no" });
-            println!("line {}", escape(m.highlight(&l, pos).as_bytes()));
-        }
-        Some("fuzz") => crate::fuzz::main(&a[2..]),
-        _ => { eprintln!("oracle acts [--gate] [--layout] [--raw-hints] < script | place COLS TAB TABLE COL ROW TEXT | bracket LINE POS | fuzz KIND N SEED"); std::process::exit(2) }
+        Some("place") => each(&rest, |c| place(c, flag("--ours"))),
+        Some("bracket") => each(&rest, bracket),
+        Some("screen") => each(&rest, |c| {
+            table(&c[2]);
+            let mut s = Screen::new(c[0].parse().expect("number"), c[1].parse().expect("number"));
+            s.bytes(&arg_bytes(&c[3]));
+            let j = s.joining().map_or("none".to_string(), |j| j.to_string());
+            format!("{}joining {j} unfinished {}", s.show(), if s.unfinished() { "yes" } else { "no" })
+        }),
+        Some("fuzz") => crate::fuzz::main(&rest),
+        _ => { eprintln!("oracle acts [--ours] [--gate] [--layout] [--screen] [--raw-hints] < script | place [--ours] [COLS TAB TABLE COL ROW TEXT] | bracket [LINE POS] | screen [COLS ROWS TABLE BYTES] | fuzz KIND N SEED"); std::process::exit(1) }
     }
 }

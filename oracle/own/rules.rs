@@ -65,7 +65,7 @@ pub fn measure(cols: u16, tab: u16, orig: (u32, u32), t: &str) -> (u32, u32) {
 #[derive(Clone, Copy, Debug, PartialEq)]
 pub enum Cell { Blank, Ch(char, Option<char>), Right }
 #[derive(Clone, Debug)]
-enum Parse { Ground, Esc, Csi(Vec<u8>), Utf(Vec<u8>, usize) }
+enum Parse { Ground, Esc, Csi(Vec<u8>), /** value so far, bytes to come, bounds of the next */ Utf(u32, u8, u8, u8) }
 #[derive(Clone, Debug)]
 pub struct Screen { pub cols: usize, pub rows: usize, pub paper: Vec<Vec<Cell>>, pub top: usize, pub row: usize, pub col: usize, last: Option<(usize, usize)>, pub held: bool, parse: Parse }
 impl Screen {
@@ -127,30 +127,60 @@ impl Screen {
         }
     }
     pub fn byte(&mut self, b: u8) {
-        match std::mem::replace(&mut self.parse, Parse::Ground) {
-            _ if b == 27 => self.parse = Parse::Esc,
+        let unfinished = std::mem::replace(&mut self.parse, Parse::Ground);
+        if b == 27 {
+            // what is unfinished is dropped, and that ends the joining
+            if !matches!(unfinished, Parse::Ground) { self.last = None; }
+            self.parse = Parse::Esc;
+            return;
+        }
+        match unfinished {
             Parse::Esc => if b == b'[' { self.parse = Parse::Csi(vec![]) } else { self.last = None },
             Parse::Csi(mut p) => match b {
                 0x30..=0x3F => { p.push(b); self.parse = Parse::Csi(p) }
                 0x40..=0x7E => self.csi(&p, b),
                 _ => self.last = None,
             },
-            Parse::Utf(mut p, n) => {
-                if b & 0xC0 == 0x80 {
-                    p.push(b);
-                    if p.len() == n { if let Ok(s) = std::str::from_utf8(&p) { let c = s.chars().next().unwrap(); self.ch(c) } } else { self.parse = Parse::Utf(p, n) }
-                } else { self.byte(b) }
+            Parse::Utf(v, left, low, high) => {
+                if (low..=high).contains(&b) {
+                    let v = v * 64 + u32::from(b - 0x80);
+                    if left == 1 { self.ch(char::from_u32(v).expect("the bounds leave characters only")) } else { self.parse = Parse::Utf(v, left - 1, 0x80, 0xBF) }
+                } else { self.last = None; self.byte(b) }
             }
             Parse::Ground => match b {
                 0..=0x7F => self.ch(b as char),
-                0xC2..=0xDF => self.parse = Parse::Utf(vec![b], 2),
-                0xE0..=0xEF => self.parse = Parse::Utf(vec![b], 3),
-                0xF0..=0xF4 => self.parse = Parse::Utf(vec![b], 4),
-                _ => {}
+                0xC2..=0xDF => self.parse = Parse::Utf(u32::from(b - 0xC0), 1, 0x80, 0xBF),
+                0xE0 => self.parse = Parse::Utf(0, 2, 0xA0, 0xBF),
+                0xED => self.parse = Parse::Utf(13, 2, 0x80, 0x9F),
+                0xE1..=0xEF => self.parse = Parse::Utf(u32::from(b - 0xE0), 2, 0x80, 0xBF),
+                0xF0 => self.parse = Parse::Utf(0, 3, 0x90, 0xBF),
+                0xF1..=0xF3 => self.parse = Parse::Utf(u32::from(b - 0xF0), 3, 0x80, 0xBF),
+                0xF4 => self.parse = Parse::Utf(4, 3, 0x80, 0x8F),
+                _ => self.last = None,
             },
         }
     }
     pub fn bytes(&mut self, b: &[u8]) { for &x in b { self.byte(x); } }
+    /// column of the cell that a zero-width character would join, on the cursor's row
+    pub fn joining(&self) -> Option<usize> { self.last.map(|x| x.1) }
+    pub fn unfinished(&self) -> bool { !matches!(self.parse, Parse::Ground) }
+    /// the cursor's line and the cells, as FORMAT.md says
+    pub fn show(&self) -> String {
+        let mut s = format!("cursor {} {} window {} held {}\n", self.row, self.col, self.top, if self.held { "yes" } else { "no" });
+        let used = self.paper.iter().rposition(|r| r.iter().any(|c| *c != Cell::Blank)).map_or(0, |i| i + 1).max(self.row + 1);
+        for i in 0..used {
+            s.push('|');
+            for j in 0..self.cols {
+                match self.paper.get(i).map_or(Cell::Blank, |r| r[j]) {
+                    Cell::Blank => s.push(' '),
+                    Cell::Ch(c, m) => { s.push(if c == ' ' { '\u{b7}' } else { c }); s.extend(m); }
+                    Cell::Right => {}
+                }
+            }
+            s.push_str("|\n");
+        }
+        s
+    }
 }
 pub fn drawn(cols: u16, t: &str) -> Vec<Vec<Cell>> {
     let mut s = Screen::new(cols as usize, 1 << 30);
@@ -230,7 +260,7 @@ impl Model {
     }
     fn styled_line(&self) -> Vec<u8> {
         let l = self.line.as_bytes();
-        if self.set.brackets && l.len() > 1 && let Some((b, p)) = self.bracket && p < l.len() && let Some(i) = Self::search(l, p, b) {
+        if self.set.brackets && l.len() > 1 && let Some((b, p)) = self.bracket && let Some(i) = Self::search(l, p, b) {
             return [&l[..i], b"\x1b[1;34m", &l[i..i + 1], b"\x1b[0m", &l[i + 1..]].concat();
         }
         l.to_vec()
@@ -280,9 +310,10 @@ impl Model {
             Act::Bad(_) => Some(3),
             Act::Set(l, p) => line_of(l, *p),
             Act::Go(p) => line_of(&self.line, *p),
+            Act::Insert(c, _) if !good(&c.to_string()) => Some(3),
             Act::Insert(c, n) => { let mut l = self.line.clone(); l.insert_str(self.pos, &c.to_string().repeat(*n as usize)); line_of(&l, self.pos + c.len_utf8() * *n as usize) }
             Act::Message(m) => if !good(m) { Some(3) } else if m.len() > 1024 { Some(4) } else if self.tall(&self.line, m) { Some(6) } else { None },
-            Act::Notice(m) => if !good(m) { Some(3) } else if m.len() > 4096 { Some(4) } else { None },
+            Act::Notice(m) => if !good(m) { Some(3) } else if m.len() > 4096 { Some(4) } else if self.tall(&self.line, "") { Some(6) } else { None },
             _ => if self.tall(&self.line, "") { Some(6) } else { None },
         }
     }

@@ -50,9 +50,9 @@ draw-is d (c ∷ cs) s e h =
     ∙ screen-path refl (omega (arith, draw-down d cs (putPen d c (s .pen)))) refl refl
 
 -- paper that is Blank from row r on
-pub over-Blank : (r : ℕ) (up : Paper) → ((i j : ℕ) → r ≤ i → up i j ≡ Blank) → over r up blankPaper ≡ up
+pub over-blank : (r : ℕ) (up : Paper) → ((i j : ℕ) → r ≤ i → up i j ≡ Blank) → over r up blankPaper ≡ up
 unfolding over
-over-Blank r up h = fun-ext λ i. fun-ext λ j. cond-both (ltb i r) (up i) blankRow (λ (w : Row). w j ≡ up i j) (λ e. refl) (λ e. sym (h i j (ltb-false i r e)))
+over-blank r up h = fun-ext λ i. fun-ext λ j. cond-both (ltb i r) (up i) blankRow (λ (w : Row). w j ≡ up i j) (λ e. refl) (λ e. sym (h i j (ltb-false i r e)))
 
 pub over-above : (r : ℕ) (up p : Paper) (i : ℕ) → i < r → over r up p i ≡ up i
 unfolding over
@@ -66,7 +66,7 @@ pub draw-fresh : (d : Geometry) (cs : List ℕ) (s : Screen) → Fresh d s → d
 draw-fresh d cs s f = draw-is d cs s (f .sound .idle) (f .sound .inside) ∙ ap (λ p. follow d p s) (ap (drawPen d cs) fresh ∙ lift-draw (s .pen .row) (s .pen .paper) d cs blankPen)
   where
     fresh : s .pen ≡ lift (s .pen .row) (s .pen .paper) blankPen
-    fresh = pen-path (sym (over-Blank (s .pen .row) (s .pen .paper) (f .blanks))) (omega arith) (f .start) (f .apart)
+    fresh = pen-path (sym (over-blank (s .pen .row) (s .pen .paper) (f .blanks))) (omega arith) (f .start) (f .apart)
 
 pub draws-proof : Draws
 draws-proof d cs s f = rw (draw-fresh d cs s f) (record {

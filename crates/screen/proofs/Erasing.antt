@@ -4,7 +4,7 @@ use mathlib.Core.Bool.{true}
 use mathlib.Core.List.{List, [], _++_, _∷_}
 use mathlib.Core.Path.{_∙_, _≡_, ap, fun-ext, refl, sym}
 use native.Mathlib.Omega.{arith}
-use Rattle.screen.proofs.Drawing.{over-Blank, over-above, screen-path}
+use Rattle.screen.proofs.Drawing.{over-blank, over-above, screen-path}
 use Rattle.screen.proofs.Sequences.{feed-append, feed-sequence, ground-is, params}
 use Rattle.screen.proofs.Translate.{pen-path}
 use Rattle.screen.specs.Bytes.{act, at, begin, bottom, column, feed, finish, into, isDigit, move, parameter, step, stepIn, withPen}
@@ -124,7 +124,7 @@ erased-is d s b k n g t e l m w =
     ∙ ap (feed d (rowsUp n)) (a .2)
     ∙ rows-from d n (s .pen .row + k) (a .0) (a .1) s
     ∙ ap (λ i. feed d (rowsUp n) (stand p i s)) e
-    ∙ ap (λ q. feed d (rowsUp n) (stand q (b + n) s)) (sym (over-Blank (suc (b + n)) p w))
+    ∙ ap (λ q. feed d (rowsUp n) (stand q (b + n) s)) (sym (over-blank (suc (b + n)) p w))
     ∙ rows-up d n (b + n) p s (omega arith) l
     ∙ ap (λ m. stand (cut m p) m s) (omega arith)
 

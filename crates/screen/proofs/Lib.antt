@@ -11,3 +11,4 @@ pub mod Inserting
 pub mod Clearing
 pub mod Forming
 pub mod Keeping
+pub mod Shifting

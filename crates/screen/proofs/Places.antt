@@ -72,9 +72,9 @@ below-draw : (d : Geometry) (cs : List ℕ) (p : Pen) → Below p → Below (dra
 below-draw d [] p x = x
 below-draw d (c ∷ cs) p x = below-draw d cs (putPen d c p) (below-put d c p x)
 
-pub block-Blank : (d : Geometry) (cs : List ℕ) (i j : ℕ) → block d cs .row < i → block d cs .paper i j ≡ Blank
+pub block-blank : (d : Geometry) (cs : List ℕ) (i j : ℕ) → block d cs .row < i → block d cs .paper i j ≡ Blank
 unfolding Below
-block-Blank d cs = below-draw d cs blankPen (λ i j h. refl)
+block-blank d cs = below-draw d cs blankPen (λ i j h. refl)
 
 -- the place never goes up
 place-combine : (d : Geometry) (o : Option ℕ) (c : ℕ) (p : Pen) → placeRow d (combine o c p) ≡ placeRow d p

@@ -8,11 +8,11 @@ use Rattle.screen.proofs.Drawing.{draw-fresh, screen-path}
 use Rattle.screen.proofs.Erasing.{cut, cut-below, erased-is, stand}
 use Rattle.screen.proofs.Feeding.{feeds-proof}
 use Rattle.screen.proofs.Moving.{moves-proof}
-use Rattle.screen.proofs.Places.{block-Blank, draw-append, good-back, place-col, place-draw, place-least, styled-good}
+use Rattle.screen.proofs.Places.{block-blank, draw-append, good-back, place-col, place-draw, place-least, styled-good}
 use Rattle.screen.proofs.Sequences.{feed-append}
 use Rattle.screen.proofs.Translate.{pen-path}
 use Rattle.screen.specs.Bytes.{begin, feed, stepIn}
-use Rattle.screen.specs.Output.{closing, eraseBytes, moveBy, refreshBytes, toColumn, upBy}
+use Rattle.screen.specs.Output.{closing, drawBytes, eraseBytes, moveBy, toColumn, upBy}
 use Rattle.screen.specs.Pages.{Page, Refreshes}
 use Rattle.screen.specs.Screen.{Geometry, Paper, Pen, Row, Screen, blankPaper, blankPen, block, follow, full, lift, over, placeCol, placeRow, putPen}
 use Rattle.screen.specs.declared.cells.Parser.the-variants.{Ground}
@@ -21,27 +21,27 @@ use Rattle.std.specs.declared.option.Option.{Option}
 use Rattle.std.specs.declared.option.Option.the-variants.{None}
 use Rattle.text.specs.Texts.{Styled}
 
-over-over : (r : ℕ) (up p q : Paper) → over r (over r up p) q ≡ over r up q
+pub over-over : (r : ℕ) (up p q : Paper) → over r (over r up p) q ≡ over r up q
 unfolding over
 over-over r up p q = fun-ext λ k. grind (arith, tells)
 
-over-under : (r : ℕ) (up p : Paper) (i : ℕ) → r ≤ i → over r up p i ≡ p (i - r)
+pub over-under : (r : ℕ) (up p : Paper) (i : ℕ) → r ≤ i → over r up p i ≡ p (i - r)
 unfolding over
 over-under r up p i h = grind (arith, tells)
 
 -- a screen by its parts
-abbrev view : Paper → ℕ → ℕ → Option ℕ → ℕ → Bool → Screen
+abbrev pub view : Paper → ℕ → ℕ → Option ℕ → ℕ → Bool → Screen
 view q i j o t h = record { pen = record { paper = q; row = i; col = j; join = o }; top = t; held = h; parser = Ground }
 
-erase-page : (d : Geometry) (r : ℕ) (up : Paper) (cs : List ℕ) (i j : ℕ) (s : Screen) → d .rows ≤ 9999 → Page d r up cs i j s → i ≤ placeRow d (block d cs) → feed d (eraseBytes (placeRow d (block d cs) - i) (placeRow d (block d cs))) s ≡ stand (cut r up) r s
+pub erase-page : (d : Geometry) (r : ℕ) (up : Paper) (cs : List ℕ) (i j : ℕ) (s : Screen) → d .rows ≤ 9999 → Page d r up cs i j s → i ≤ placeRow d (block d cs) → feed d (eraseBytes (placeRow d (block d cs) - i) (placeRow d (block d cs))) s ≡ stand (cut r up) r s
 erase-page d r up cs i j s high pg h =
     let n = placeRow d (block d cs) in
     let q = block d cs .paper in
     erased-is d s r (n - i) n (pg .idle) (pg .shown) (omega arith) (pg .tall) (omega arith)
-      (λ a b l. ap (λ (x : Paper). x a b) (pg .paper) ∙ ap (λ (x : Row). x b) (over-under r up q a (omega arith)) ∙ block-Blank d cs (a - r) b (omega (arith, place-least d (block d cs))))
+      (λ a b l. ap (λ (x : Paper). x a b) (pg .paper) ∙ ap (λ (x : Row). x b) (over-under r up q a (omega arith)) ∙ block-blank d cs (a - r) b (omega (arith, place-least d (block d cs))))
     ∙ ap (λ x. stand x r s) (ap (cut r) (pg .paper) ∙ over-over r up q blankPaper)
 
-draw-page : (d : Geometry) (r : ℕ) (up : Paper) (bs ds : List ℕ) (s : Screen) → s .top ≤ r → r < s .top + d .rows → Styled bs ds → feed d bs (stand (cut r up) r s) ≡ follow d (lift r up (block d ds)) s
+pub draw-page : (d : Geometry) (r : ℕ) (up : Paper) (bs ds : List ℕ) (s : Screen) → s .top ≤ r → r < s .top + d .rows → Styled bs ds → feed d bs (stand (cut r up) r s) ≡ follow d (lift r up (block d ds)) s
 draw-page d r up bs ds s h k st =
     let t = stand (cut r up) r s in
     feeds-proof d bs ds t st refl
@@ -70,27 +70,27 @@ column-page d q i j (suc k) o t h a b c e =
     ∙ moves-proof d (suc k) (view q i 0 None t h) (record { idle = refl; above = a; inside = b; fits = omega arith }) (omega arith) (omega arith) .2 (omega arith)
     ∙ ap (λ x. view q i x None t h) (omega arith)
 
--- the whole
-refreshed-is : (d : Geometry) (r : ℕ) (up : Paper) (cs : List ℕ) (i j : ℕ) (s : Screen) (bs es fs : List ℕ)
+-- the place of a text's front is not below that of the whole
+pub place-front : (d : Geometry) (bs es fs : List ℕ) → 0 < d .cols → Styled bs (es ++ fs) → placeRow d (block d es) ≤ placeRow d (block d (es ++ fs))
+place-front d bs es fs pos st = rw (draw-append d es fs blankPen) (place-draw d fs (block d es) (good-back es fs (styled-good bs (es ++ fs) st)) pos)
+
+-- a block drawn from the start of a row below which nothing stands
+pub drawn-is : (d : Geometry) (r : ℕ) (up : Paper) (s : Screen) (bs es fs : List ℕ)
     → 0 < d .cols → d .cols ≤ 9999 → d .rows ≤ 9999
-    → Page d r up cs i j s → i ≤ placeRow d (block d cs) → Styled bs (es ++ fs) → placeRow d (block d (es ++ fs)) < d .rows
-    → placeRow d (block d es) ≤ placeRow d (block d (es ++ fs))
-    → feed d (refreshBytes d (placeRow d (block d cs)) i bs (es ++ fs) es) s
+    → s .top ≤ r → r < s .top + d .rows → Styled bs (es ++ fs) → placeRow d (block d (es ++ fs)) < d .rows
+    → feed d (drawBytes d bs (es ++ fs) es) (stand (cut r up) r s)
       ≡ view (over r up (block d (es ++ fs) .paper)) (r + placeRow d (block d es)) (placeCol d (block d es)) None (max (s .top) (suc (r + placeRow d (block d (es ++ fs))) - d .rows)) (s .held)
-refreshed-is d r up cs i j s bs es fs pos wide high pg h st fits le =
-    feed-append d (eraseBytes (n - i) n) _ s
-    ∙ ap (feed d (bs ++ tail)) (erase-page d r up cs i j s high pg h)
-    ∙ feed-append d bs tail (stand (cut r up) r s)
-    ∙ ap (feed d tail) (draw-page d r up bs ds s (pg .shown) (omega arith) st)
+drawn-is d r up s bs es fs pos wide high above inside st fits =
+    let le = place-front d bs es fs pos st in
+    feed-append d bs tail (stand (cut r up) r s)
+    ∙ ap (feed d tail) (draw-page d r up bs ds s above inside st)
     ∙ feed-append d (closing (full d p)) _ (follow d (lift r up p) s)
     ∙ ap (feed d (upBy (a - b) ++ toColumn c)) (close .1)
     ∙ feed-append d (upBy (a - b)) (toColumn c) _
-    ∙ ap (feed d (toColumn c)) (upped .1)
-    ∙ column-page d q (r + a - (a - b)) (placeCol d p) c (upped .0) top (s .held) (omega arith) (omega arith) (place-col d (block d es) pos) wide
+    ∙ ap (feed d (toColumn c)) (upped (omega arith) .1)
+    ∙ column-page d q (r + a - (a - b)) (placeCol d p) c (upped (omega arith) .0) top (s .held) (omega arith) (omega arith) (place-col d (block d es) pos) wide
     ∙ ap (λ x. view q x c None top (s .held)) (omega arith)
   where
-    n : ℕ
-    n = placeRow d (block d cs)
     ds : List ℕ
     ds = es ++ fs
     p : Pen
@@ -109,11 +109,14 @@ refreshed-is d r up cs i j s bs es fs pos wide high pg h st fits le =
     tail = closing (full d p) ++ (upBy (a - b) ++ toColumn c)
     close : (o : Option ℕ) × (feed d (closing (full d p)) (follow d (lift r up p) s) ≡ view q (r + a) (placeCol d p) o top (s .held))
     close = close-page d r up p s
-    upped : (w : Option ℕ) × (feed d (upBy (a - b)) (view q (r + a) (placeCol d p) (close .0) top (s .held)) ≡ view q (r + a - (a - b)) (placeCol d p) w top (s .held))
-    upped = up-page d q (a - b) (r + a) (placeCol d p) (close .0) top (s .held) (omega arith) (omega arith) (place-col d p pos) high
+    upped : top + (a - b) ≤ r + a → (w : Option ℕ) × (feed d (upBy (a - b)) (view q (r + a) (placeCol d p) (close .0) top (s .held)) ≡ view q (r + a - (a - b)) (placeCol d p) w top (s .held))
+    upped h = up-page d q (a - b) (r + a) (placeCol d p) (close .0) top (s .held) h (omega arith) (place-col d p pos) high
 
 pub refreshes-proof : Refreshes
 refreshes-proof d r up cs i j s bs es fs pos wide high pg h st fits =
-    let le : placeRow d (block d es) ≤ placeRow d (block d (es ++ fs)) = rw (draw-append d es fs blankPen) (place-draw d fs (block d es) (good-back es fs (styled-good bs (es ++ fs) st)) pos) in
-    rw (refreshed-is d r up cs i j s bs es fs pos wide high pg h st fits le)
+    let le = place-front d bs es fs pos st in
+    let n = placeRow d (block d cs) in
+    rw (feed-append d (eraseBytes (n - i) n) (drawBytes d bs (es ++ fs) es) s
+      ∙ ap (feed d (drawBytes d bs (es ++ fs) es)) (erase-page d r up cs i j s high pg h)
+      ∙ drawn-is d r up s bs es fs pos wide high (pg .shown) (omega arith) st fits)
     (record { page = record { idle = refl; paper = refl; line = refl; place = refl; shown = omega arith; tall = omega arith }; window = refl; held = refl })

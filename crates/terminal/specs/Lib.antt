@@ -1,0 +1,5 @@
+pub mod Limits
+pub mod Windows
+pub mod Answers
+pub mod Recording
+pub mod Writing
