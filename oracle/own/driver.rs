@@ -157,10 +157,11 @@ fn session(set: &Settings, acts: &[Act], raw_hints: bool, gate: bool, reports: &
     let mut m = Model::new(set, OURS);
     let (mut torn, mut dead) = (false, false);
     for act in acts {
+        if dead { reports.push(no_session(act)); continue; }
         if gate || matches!(act, Act::Bad(_)) {
             m.line = s.line.as_str().to_string();
             m.pos = s.line.pos();
-            let no = if dead || (torn && !matches!(act, Act::Clear)) { Some(7) }
+            let no = if torn && !matches!(act, Act::Clear) { Some(7) }
                 else if matches!(act, Act::Create) { crate::rules::checked(set).or_else(|| m.refused(act)) }
                 else { m.refused(act) };
             if let Some(k) = no {
@@ -316,6 +317,10 @@ fn arg_bytes(a: &str) -> Vec<u8> {
 fn arg_text(a: &str) -> String { String::from_utf8(arg_bytes(a)).expect("UTF-8") }
 fn table(a: &str) { unicode_width::set_eastern(match a { "latin" => false, "eastern" => true, _ => panic!("latin|eastern") }); }
 
+/// an act after a create that was refused
+fn no_session(act: &Act) -> Report {
+    Report { name: act.name(), outcome: Outcome::Error("no session".into()), writes: vec![], taken: vec![], worked: vec![], max_interrupts: 0, lay: None }
+}
 /// the acts by our rules, without the crate: its reports have the form of the crate's
 fn run_ours(set: &Settings, acts: &[Act]) -> Result<Vec<(Report, Screen)>, String> {
     if !set.faults.is_empty() { return Err("the model of our rules knows no faults".into()); }
@@ -323,14 +328,18 @@ fn run_ours(set: &Settings, acts: &[Act]) -> Result<Vec<(Report, Screen)>, Strin
     let mut screen = Screen::new(set.cols as usize, set.rows as usize);
     let mut m = Model::new(set, OURS);
     let mut out = Vec::new();
+    let mut dead = false;
     for act in acts {
         if matches!(act, Act::Create) {
+            dead = false;
             m = Model::new(set, OURS);
             m.upper = screen.paper.clone();
             m.upper.resize(screen.row, vec![Cell::Blank; screen.cols]);
             m.top = screen.top;
         }
+        if dead { out.push((no_session(act), screen.clone())); continue; }
         let no = if matches!(act, Act::Create) { crate::rules::checked(set).or_else(|| m.refused(act)) } else { m.refused(act) };
+        dead = no.is_some() && matches!(act, Act::Create);
         let writes = if no.is_some() { vec![] } else { m.act(act) };
         for w in &writes { screen.bytes(w); }
         if no.is_none() { m.page(&screen)?; }

@@ -27,7 +27,7 @@ pub fn main(a: &[String]) {
         Some("big") => big(n, seed),
         Some("stale") => stale(n),
         Some("closing") => closing(n),
-        _ => eprintln!("fuzz place LEN | acts N SEED | brackets LEN | faults N SEED | bound"),
+        _ => eprintln!("fuzz acts N SEED | big N SEED | tear N SEED | faults N SEED | stats N SEED | place LEN | brackets LEN | stale LEN | closing LEN | halves LEN | bound"),
     }
 }
 /// every text up to `len` clusters' characters from a small alphabet, small sizes, origins up to two past the row
@@ -48,7 +48,7 @@ fn places(len: usize) {
                 let got = match got { Ok(p) => format!("{:?}", (p.col, p.row)), Err(e) => format!("panic {}", message_of(e)) };
                 let want = format!("{want:?}");
                 if got != want {
-                    let why = match (t.contains('\t'), t.contains("\x1b[") && t.contains(['?', ';']), col >= cols) {
+                    let why = match (t.contains('\t'), t.contains('\x1b') && t.contains(['?', ';']), col >= cols) {
                         (true, _, o) => format!("tab, origin {}", if o { "at or past cols" } else { "inside" }),
                         (_, true, _) => "sequence bytes".to_string(),
                         _ => "OTHER".to_string(),

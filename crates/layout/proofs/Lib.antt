@@ -1,0 +1,3 @@
+pub mod Walking
+pub mod Ending
+pub mod GoodTexts

@@ -1,1 +1,3 @@
-
+pub mod Positions
+pub mod Measuring
+pub mod Drawing

@@ -1,1 +1,3 @@
-//! Places.
+//! Where a text ends on rows of columns.
+pub mod layout;
+pub mod measure;

@@ -22,7 +22,7 @@ wiped-cut t n c p z h w = fun-ext λ i. fun-ext λ j. rw z (go i j (cases-lt i (
     go i j (inl l) = let e : wipeFrom 0 (p i) j ≡ Blank = ap (λ (f : Row). f j) (wipe-all (p i)) in grind (arith, tells)
     go i j (inr l) = let e = w i j l in grind (arith, tells)
 
-cleared-is : (d : Geometry) (s : Screen) → 0 < d .rows → Kept d s → feed d (27 ∷ 91 ∷ 72 ∷ 27 ∷ 91 ∷ 74 ∷ []) s ≡ stand (cut (s .top) (s .pen .paper)) (s .top) s
+pub cleared-is : (d : Geometry) (s : Screen) → 0 < d .rows → Kept d s → feed d (27 ∷ 91 ∷ 72 ∷ 27 ∷ 91 ∷ 74 ∷ []) s ≡ stand (cut (s .top) (s .pen .paper)) (s .top) s
 unfolding stepIn begin finish act
 cleared-is d s h k = screen-path (pen-path (wiped-cut (s .top) (d .rows) (min 0 (d .cols - 1)) (s .pen .paper) (omega arith) h (k .below)) refl (omega arith) refl) refl refl refl
 

@@ -9,7 +9,7 @@ use mathlib.Core.Path.{_∙_, _≡_, ap, refl, sym}
 use native.Mathlib.Omega.{arith}
 use Rattle.screen.proofs.Decode.{utf-proof}
 use Rattle.screen.proofs.Drawing.{screen-path}
-use Rattle.screen.proofs.Places.{draw-append}
+use Rattle.screen.proofs.Heights.{draw-append}
 use Rattle.screen.proofs.Translate.{lift-put, pen-path}
 use Rattle.screen.specs.Bytes.{feed}
 use Rattle.screen.specs.Pages.{Inserts}

@@ -2,7 +2,7 @@ pub mod Sequences
 pub mod Decode
 pub mod Translate
 pub mod Drawing
-pub mod Places
+pub mod Heights
 pub mod Feeding
 pub mod Erasing
 pub mod Moving
@@ -12,3 +12,5 @@ pub mod Clearing
 pub mod Forming
 pub mod Keeping
 pub mod Shifting
+pub mod Calming
+pub mod Counting

@@ -8,12 +8,12 @@ use Rattle.screen.proofs.Drawing.{draw-fresh, screen-path}
 use Rattle.screen.proofs.Erasing.{cut, cut-below, erased-is, stand}
 use Rattle.screen.proofs.Feeding.{feeds-proof}
 use Rattle.screen.proofs.Moving.{moves-proof}
-use Rattle.screen.proofs.Places.{block-blank, draw-append, good-back, place-col, place-draw, place-least, styled-good}
+use Rattle.screen.proofs.Heights.{block-blank, draw-append, good-back, place-col, place-draw, place-least, styled-good}
 use Rattle.screen.proofs.Sequences.{feed-append}
 use Rattle.screen.proofs.Translate.{pen-path}
 use Rattle.screen.specs.Bytes.{begin, feed, stepIn}
 use Rattle.screen.specs.Output.{closing, drawBytes, eraseBytes, moveBy, toColumn, upBy}
-use Rattle.screen.specs.Pages.{Page, Refreshes}
+use Rattle.screen.specs.Pages.{OnScreen, Refreshes}
 use Rattle.screen.specs.Screen.{Geometry, Paper, Pen, Row, Screen, blankPaper, blankPen, block, follow, full, lift, over, placeCol, placeRow, putPen}
 use Rattle.screen.specs.declared.cells.Parser.the-variants.{Ground}
 use Rattle.std.proofs.shelf.Ways.{tells}
@@ -33,7 +33,7 @@ over-under r up p i h = grind (arith, tells)
 abbrev pub view : Paper → ℕ → ℕ → Option ℕ → ℕ → Bool → Screen
 view q i j o t h = record { pen = record { paper = q; row = i; col = j; join = o }; top = t; held = h; parser = Ground }
 
-pub erase-page : (d : Geometry) (r : ℕ) (up : Paper) (cs : List ℕ) (i j : ℕ) (s : Screen) → d .rows ≤ 9999 → Page d r up cs i j s → i ≤ placeRow d (block d cs) → feed d (eraseBytes (placeRow d (block d cs) - i) (placeRow d (block d cs))) s ≡ stand (cut r up) r s
+pub erase-page : (d : Geometry) (r : ℕ) (up : Paper) (cs : List ℕ) (i j : ℕ) (s : Screen) → d .rows ≤ 9999 → OnScreen d r up cs i j s → i ≤ placeRow d (block d cs) → feed d (eraseBytes (placeRow d (block d cs) - i) (placeRow d (block d cs))) s ≡ stand (cut r up) r s
 erase-page d r up cs i j s high pg h =
     let n = placeRow d (block d cs) in
     let q = block d cs .paper in

@@ -13,7 +13,7 @@ use Rattle.screen.proofs.Translate.{pen-path}
 use Rattle.screen.specs.Bytes.{act, begin, column, feed, finish, move, stepIn}
 use Rattle.screen.specs.Laws.{Sound}
 use Rattle.screen.specs.Output.{holdBytes, moveBytes, releaseBytes, shiftBy, shiftFrom}
-use Rattle.screen.specs.Screen.{Geometry, Paper, putPen}
+use Rattle.screen.specs.Screen.{Geometry, Paper, Screen, putPen}
 use Rattle.std.proofs.shelf.Tests.{cond-both, ltb-false, ltb-true}
 use Rattle.std.specs.declared.option.Option.{Option}
 use Rattle.std.specs.declared.option.Option.the-variants.{None}
@@ -98,3 +98,8 @@ hold-is d q i j o t h = refl
 pub release-is : (d : Geometry) (q : Paper) (i j : ℕ) (o : Option ℕ) (t : ℕ) (h : Bool) → feed d releaseBytes (view q i j o t h) ≡ view q i j None t false
 unfolding stepIn begin finish act
 release-is d q i j o t h = refl
+
+-- an update that may be held is let go, whatever is unfinished
+pub let-go-is : (d : Geometry) (s : Screen) → feed d releaseBytes s ≡ view (s .pen .paper) (s .pen .row) (s .pen .col) None (s .top) false
+unfolding stepIn begin finish act
+let-go-is d s = refl

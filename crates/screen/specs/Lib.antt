@@ -3,3 +3,4 @@ pub mod Bytes
 pub mod Output
 pub mod Laws
 pub mod Pages
+pub mod Places

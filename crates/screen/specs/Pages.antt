@@ -13,7 +13,7 @@ use Rattle.text.specs.Characters.{isControl}
 use Rattle.text.specs.Texts.{Styled}
 
 -- the screen shows the rows `up` above row r, the block of the text from there on, and the cursor at the place (i, j) of the block
-pub record Page (d : Geometry) (r : ℕ) (up : Paper) (cs : List ℕ) (i j : ℕ) (s : Screen) : Type 0 where
+pub record OnScreen (d : Geometry) (r : ℕ) (up : Paper) (cs : List ℕ) (i j : ℕ) (s : Screen) : Type 0 where
   pub idle : s .parser ≡ Ground
   pub paper : s .pen .paper ≡ over r up (block d cs .paper)
   pub line : s .pen .row ≡ r + i
@@ -22,7 +22,7 @@ pub record Page (d : Geometry) (r : ℕ) (up : Paper) (cs : List ℕ) (i j : ℕ
   pub tall : r + placeRow d (block d cs) < s .top + d .rows
 
 pub record Refreshed (d : Geometry) (r : ℕ) (up : Paper) (ds es : List ℕ) (s t : Screen) : Type 0 where
-  pub page : Page d r up ds (placeRow d (block d es)) (placeCol d (block d es)) t
+  pub page : OnScreen d r up ds (placeRow d (block d es)) (placeCol d (block d es)) t
   pub window : t .top ≡ max (s .top) (suc (r + placeRow d (block d ds)) - d .rows)
   pub held : t .held ≡ s .held
 
@@ -30,12 +30,12 @@ pub record Refreshed (d : Geometry) (r : ℕ) (up : Paper) (ds es : List ℕ) (s
 abbrev pub Refreshes : Type 0
 Refreshes = (d : Geometry) (r : ℕ) (up : Paper) (cs : List ℕ) (i j : ℕ) (s : Screen) (bs es fs : List ℕ)
     → 0 < d .cols → d .cols ≤ 9999 → d .rows ≤ 9999
-    → Page d r up cs i j s → i ≤ placeRow d (block d cs) → Styled bs (es ++ fs) → placeRow d (block d (es ++ fs)) < d .rows
+    → OnScreen d r up cs i j s → i ≤ placeRow d (block d cs) → Styled bs (es ++ fs) → placeRow d (block d (es ++ fs)) < d .rows
     → Refreshed d r up (es ++ fs) es s (feed d (refreshBytes d (placeRow d (block d cs)) i bs (es ++ fs) es) s)
 
 -- one character at the end of the text, written by itself
 pub record Inserted (d : Geometry) (r : ℕ) (up : Paper) (cs : List ℕ) (c : ℕ) (s t : Screen) : Type 0 where
-  pub page : Page d r up (cs ++ (c ∷ [])) (placeRow d (block d (cs ++ (c ∷ [])))) (placeCol d (block d (cs ++ (c ∷ [])))) t
+  pub page : OnScreen d r up (cs ++ (c ∷ [])) (placeRow d (block d (cs ++ (c ∷ [])))) (placeCol d (block d (cs ++ (c ∷ [])))) t
   pub row : placeRow d (block d (cs ++ (c ∷ []))) ≡ placeRow d (block d cs)
   pub col : placeCol d (block d (cs ++ (c ∷ []))) ≡ placeCol d (block d cs) + d .width c
   pub window : t .top ≡ s .top
@@ -43,7 +43,7 @@ pub record Inserted (d : Geometry) (r : ℕ) (up : Paper) (cs : List ℕ) (c : �
 
 abbrev pub Inserts : Type 0
 Inserts = (d : Geometry) (r : ℕ) (up : Paper) (cs : List ℕ) (c : ℕ) (s : Screen)
-    → Page d r up cs (placeRow d (block d cs)) (placeCol d (block d cs)) s
+    → OnScreen d r up cs (placeRow d (block d cs)) (placeCol d (block d cs)) s
     → scalar c ≡ true → isControl c ≡ false → d .width c ≢ 0 → placeCol d (block d cs) + d .width c < d .cols
     → Inserted d r up cs c s (feed d (encode c) s)
 

@@ -2,6 +2,7 @@
 pub mod cells;
 ghost use Rattle.screen.specs.Laws.{AlwaysKept, Clears, Draws, Erases, Feeds, Moves, Style, Utf};
 ghost use Rattle.screen.specs.Pages.{Inserts, Refreshes};
+ghost use Rattle.screen.specs.Places.{Places};
 
 pub fn style() -> u8
     ensures { λ _. ⌜ Style ⌝ }
@@ -59,6 +60,12 @@ pub fn clears() -> u8
 
 pub fn keeps() -> u8
     ensures { λ _. ⌜ AlwaysKept ⌝ }
+{
+    0
+}
+
+pub fn places() -> u8
+    ensures { λ _. ⌜ Places ⌝ }
 {
     0
 }

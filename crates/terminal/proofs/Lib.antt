@@ -1,3 +1,4 @@
 pub mod Feeds
 pub mod Insides
 pub mod Writes
+pub mod Sizes

@@ -13,6 +13,14 @@ pub struct Pacer<T> {
     pub below: T,
 }
 
+// The first bytes, 32 at most.
+fn portion(bytes: &[u8]) -> &[u8]
+    ensures { λ r. ⌜ now r ≡ take 32 (now (bytes .entry)) ⌝ }
+{
+    let end = bytes.len().min(PORTION);
+    &bytes[0..end]
+}
+
 impl<T> Pacer<T> {
     // A pacer on a terminal.
     pub fn new(below: T) -> Pacer<T>
@@ -36,7 +44,6 @@ pub impl<T: Terminal> Terminal for Pacer<T> as PacerTerminal {
     }
 
     fn write(&mut self, bytes: &[u8]) -> WriteAnswer {
-        let portion = bytes.len().min(PORTION);
-        self.below.write(&bytes[0..portion])
+        self.below.write(portion(bytes))
     }
 }

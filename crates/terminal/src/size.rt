@@ -3,11 +3,12 @@ ghost use Prim.Native.Nat.{ℕ, _≤_};
 ghost use mathlib.Core.Path.{_≡_};
 ghost use mathlib.Core.Bool.{false};
 ghost use Rattle.terminal.specs.Limits.{proper};
+ghost use Rattle.std.specs.Orderings.{Decides};
 ghost use Rattle.std.specs.Results.{Cases};
 use text::refusal::Refusal;
 
 // From 2 to 500 columns, from 1 to 200 rows.
-#[derive(Clone, Copy, PartialEq, Eq)]
+#[derive(Clone, Copy)]
 pub struct Size {
     cols: u16,
     rows: u16,
@@ -41,3 +42,13 @@ impl Size {
         self.rows
     }
 }
+
+pub impl PartialEq<Size> for Size as SizePartialEq {
+    ghost equals = { λ a b r. Decides r (a ≡ b) };
+
+    fn eq(&self, other: &Size) -> bool {
+        other.cols == self.cols && other.rows == self.rows
+    }
+}
+
+pub impl Eq for Size as SizeEq {}

@@ -8,7 +8,7 @@ use native.Mathlib.Omega.{arith}
 use lib.ListN.{length, getD, take, drop, take-append-drop, length-drop, length-append}
 use lib.Seq.{length-take-le, drop-cons}
 use lib.Utf8.{next, encode, scalar, low-scalar}
-use Rattle.std.proofs.shelf.Text.{length-encode, width-bounds}
+use Rattle.std.proofs.shelf.Text.{encode-same, length-encode, width-bounds}
 use Rattle.std.proofs.str.Digits.{high-scalar}
 use Rattle.std.proofs.str.Faults.{no-char}
 use Rattle.std.proofs.str.Laws.{one, two, three, four}
@@ -108,3 +108,14 @@ module _ (bs : List ℕ) (at : ℕ) where
       spelled c 65536 4 (omega arith, omega arith, omega arith)
       (λ lo. ap (take 4) (first (omega arith) ∙ ap (λ t. x ∷ t) (step 1 (f .0) ∙ ap (λ t. y ∷ t) (step 2 (g .0) ∙ ap (λ t. z ∷ t) (step 3 (j .0))))) ∙ (λ k. p k ∷ q k ∷ r k ∷ t k ∷ []) ∙ sym (four c lo))
       (λ none. no-char bs at (λ k. let i = k .fourth h .2 in none (omega (arith, i .0)) (high-scalar c (omega (arith, i .0)) (omega (arith, i .0)) (omega (arith, i .1)))))
+
+-- the character that stands at the front is the one that is found there
+pub front-same : (bs rest : List ℕ) (c : ℕ) (d : Decoded) → Front bs d → bs ≡ encode c ++ rest → (d .code ≡ c) × (drop (d .len) bs ≡ rest)
+front-same bs rest c d f e = encode-same (d .code) c (drop (d .len) bs) rest (sym (f .bytes) ∙ e)
+
+pub decoded-is : (bs rest : List ℕ) (c : ℕ) (r : Option Decoded) → scalar c ≡ true → bs ≡ encode c ++ rest → Decodes bs r → r ≡ Some (record { code = c; len = length (encode c) })
+decoded-is bs rest c None s e n = absurd (n c rest s e)
+decoded-is bs rest c (Some d) s e f =
+    let k : d .code ≡ c = front-same bs rest c d f e .0 in
+    let l : d .len ≡ length (encode c) = f .len ∙ ap (λ m. length (encode m)) k in
+    λ i. Some (record { code = k i; len = l i })

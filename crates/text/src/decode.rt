@@ -2,8 +2,9 @@
 ghost use mathlib.Core.Path.{_≡_};
 ghost use Prim.Native.Nat.{_≤_, _<_};
 ghost use lib.ListN.{length, getD, drop};
-ghost use Rattle.text.specs.Characters.{isControl};
-ghost use Rattle.text.specs.Continuations.{Continues, Spelled};
+ghost use Rattle.std.specs.Orderings.{Decides};
+ghost use Rattle.text.specs.Characters.{isControl, Good};
+ghost use Rattle.text.specs.Continuations.{Follows, Continues, Spelled};
 ghost use Rattle.text.specs.Decoding.{Decodes, Within};
 
 // A character, and how many bytes it takes.
@@ -19,6 +20,13 @@ pub fn is_control(c: char) -> bool
 {
     let code = c as u32;
     code < 0x20 || (0x7f <= code && code < 0xa0)
+}
+
+// Whether a text may hold a character: LF, or one that is no control.
+pub fn is_good(c: char) -> bool
+    ensures { λ r. ⌜ Decides r (Good c) ⌝ }
+{
+    c == '\n' || !is_control(c)
 }
 
 // The character that begins at an index: none past the end, or where no UTF-8 character begins.
@@ -47,6 +55,13 @@ pub fn char_at(bytes: &[u8], at: usize) -> Option<Decoded>
     }
 }
 
+// Whether a byte continues a character.
+pub(crate) fn is_continuation(byte: u8) -> bool
+    ensures { λ r. ⌜ Decides r (Follows byte) ⌝ }
+{
+    0x80 <= byte && byte < 0xc0
+}
+
 // The six bits of the continuation byte at an index.
 fn continuation(bytes: &[u8], at: usize) -> Option<u32>
     ensures { λ r. ⌜ Continues (now (bytes .entry)) at r ⌝ }
@@ -55,10 +70,10 @@ fn continuation(bytes: &[u8], at: usize) -> Option<u32>
         return None;
     }
     let byte = bytes[at];
-    if byte < 0x80 || 0xc0 <= byte {
-        None
-    } else {
+    if is_continuation(byte) {
         Some((byte - 0x80) as u32)
+    } else {
+        None
     }
 }
 

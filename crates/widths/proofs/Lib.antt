@@ -1,1 +1,3 @@
 mod Ordered
+pub mod Clustering
+pub mod Standing

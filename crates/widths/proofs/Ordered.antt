@@ -1,14 +1,13 @@
 -- What the order of the ranges gives. Assumes nothing.
-use mathlib.Core.Path.{_≡_, refl, sym, ap, _∙_}
-use mathlib.Core.Bool.{Bool, true, false, cond, _&&_, _||_}
+use mathlib.Core.Path.{_≡_, refl, ap, _∙_}
+use mathlib.Core.Bool.{Bool, true, false, cond, _&&_}
 use mathlib.Core.List.{List, [], _∷_}
-use Prim.Native.Nat.{ℕ, zero, suc, _+_, _≤_, _<_, min}
+use Prim.Native.Nat.{ℕ, zero, suc, _+_, _≤_, _<_}
 use native.Mathlib.Nat.{not-suc-le-zero, le-of-suc-le-suc}
 use native.Mathlib.Omega.{arith}
-use mathlib.Core.Logic.{⊎-elim}
-use lib.Dec.{leb, ltb}
+use lib.Dec.{leb}
 use lib.ListN.{length, drop, getD}
-use Rattle.std.proofs.shelf.Tests.{leb-true, le-leb, lt-leb, ltb-true, and-parts, or-cases, and-from, and-right, cond-true, cond-false}
+use Rattle.std.proofs.shelf.Tests.{leb-true, le-leb, lt-leb, and-parts, and-from, and-right, cond-true, cond-false}
 use Rattle.std.proofs.shelf.Ways.{tells}
 use Rattle.std.proofs.shelf.Lists.{drop-more}
 use Rattle.widths.specs.declared.ranges.WidthRange.{WidthRange}

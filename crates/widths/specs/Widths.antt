@@ -1,8 +1,8 @@
 -- How many columns a character takes. Assumes nothing.
-use mathlib.Core.Bool.{Bool, true, false, cond, _&&_}
+use mathlib.Core.Bool.{Bool, true, cond, _&&_}
 use mathlib.Core.List.{List, [], _∷_}
 use Prim.Native.Nat.{ℕ, _+_, min}
-use lib.Dec.{leb, ltb}
+use lib.Dec.{leb}
 use Rattle.widths.specs.declared.ranges.WidthRange.{WidthRange}
 
 abbrev pub range : ℕ → ℕ → ℕ → WidthRange

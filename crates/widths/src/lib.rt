@@ -1,3 +1,4 @@
-//! How many columns characters take.
+//! How many columns characters and clusters take.
+pub mod clusters;
 pub mod ranges;
 pub mod tables;

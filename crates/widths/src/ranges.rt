@@ -1,5 +1,4 @@
 // The characters that do not take one column.
-ghost use Prim.Native.Nat.{ℕ, _≤_};
 ghost use mathlib.Core.Path.{_≡_};
 ghost use mathlib.Core.Bool.{true};
 ghost use Rattle.widths.specs.Widths.{ranges, listed, ascending};

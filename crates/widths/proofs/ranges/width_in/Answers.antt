@@ -1,6 +1,4 @@
-use mathlib.Core.Path.{_≡_, refl, sym, ap, _∙_}
-use lib.Seq.{drop-length}
-use native.Mathlib.Omega.{arith}
+use mathlib.Core.Path.{sym, ap, _∙_}
 use Rattle.std.proofs.shelf.Lists.{drop-all}
 use Rattle.widths.specs.Widths.{listed}
 use Rattle.widths.proofs.Ordered.{before-at, held-at, passed-at}

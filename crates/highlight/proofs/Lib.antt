@@ -1,0 +1,4 @@
+mod Balances
+mod Partners
+mod Puts
+mod Shown

@@ -1,0 +1,3 @@
+pub mod Brackets
+pub mod Answers
+pub mod Lighting

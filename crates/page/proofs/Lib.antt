@@ -1,0 +1,12 @@
+pub mod Showing
+pub mod Framing
+pub mod Acting
+pub mod Delivering
+pub mod Spelt
+pub mod Propriety
+pub mod Admitting
+pub mod Inserting
+pub mod Stepping
+pub mod Closing
+pub mod Quieting
+pub mod Lawful

@@ -1,0 +1,6 @@
+pub mod Page
+pub mod Acts
+pub mod Output
+pub mod Rules
+pub mod Law
+pub mod Meaning

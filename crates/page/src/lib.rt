@@ -1,0 +1,2 @@
+//! Pages: what a captioner's screen shows, and how it follows from the acts of a session.
+pub mod outcome;
