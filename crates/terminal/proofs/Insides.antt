@@ -2,15 +2,15 @@
 use mathlib.Core.Path.{_≡_, refl}
 use mathlib.Core.Bool.{Bool, true, false, cond}
 use mathlib.Core.List.{List, [], _∷_}
-use Prim.Native.Nat.{ℕ, suc, _+_, _-_, _*_, _≤_, _<_, max}
+use Prim.Native.Nat.{ℕ, _+_, _-_, _*_, _≤_, _<_, max}
 use native.Mathlib.Omega.{arith}
-use lib.Dec.{leb, ltb, eqb}
-use Rattle.std.proofs.shelf.Tests.{ltb-false, eqb-false, cases-bool, cond-both}
+use lib.Dec.{ltb, eqb}
+use Rattle.std.proofs.shelf.Tests.{ltb-false, eqb-false, cond-both}
 use Rattle.std.specs.declared.option.Option.{Option}
 use Rattle.std.specs.declared.option.Option.the-variants.{Some, None}
 use Rattle.text.specs.Characters.{isControl}
 use Rattle.screen.specs.Screen.{Screen, Geometry, Pen, Paper, put, putPen, combine, takes, room, blankScreen}
-use Rattle.screen.specs.Bytes.{within, into, dropped, escaped, joinAfter, begin, continue, at, column, bottom, move, inked, holding, act, finish, stepIn, step, feed}
+use Rattle.screen.specs.Bytes.{within, into, dropped, joinAfter, begin, at, column, move, inked, holding, act, finish, stepIn, step, feed}
 use Rattle.screen.specs.declared.cells.Parameters.{Parameters}
 use Rattle.screen.specs.declared.cells.Parameters.the-variants.{Bare, Number, Numbers, Mode, Other}
 use Rattle.screen.specs.declared.cells.Parser.{Parser}

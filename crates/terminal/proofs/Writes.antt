@@ -7,7 +7,7 @@ use lib.ListN.{length, take, drop, length-drop}
 use Rattle.std.proofs.shelf.Lists.{take-all, take-rest}
 use Rattle.std.specs.declared.result.Result.{Result}
 use Rattle.std.specs.declared.result.Result.the-variants.{Ok, Err}
-use Rattle.screen.specs.Screen.{Screen, Geometry}
+use Rattle.screen.specs.Screen.{Screen}
 use Rattle.screen.specs.Bytes.{feed}
 use Rattle.terminal.specs.declared.size.Size.{Size}
 use Rattle.terminal.specs.declared.terminal.WriteAnswer.{WriteAnswer}
@@ -17,7 +17,7 @@ use Rattle.terminal.specs.declared.writing.WriteFault.the-variants as faults
 use Rattle.terminal.specs.declared.writing.BrokenWrite.{BrokenWrite}
 use Rattle.terminal.specs.Windows.{geometry}
 use Rattle.terminal.specs.Answers.{Worked, taken}
-use Rattle.terminal.specs.Writing.{Sent, begun, took, interrupted, Offered, Breaks, Last, Ends, Broke, WroteAll}
+use Rattle.terminal.specs.Writing.{Sent, begun, took, interrupted, Offered, Breaks, Last, Ends, WroteAll}
 use Rattle.terminal.proofs.Feeds.{feed-more}
 
 -- once all is taken, no interruption came since

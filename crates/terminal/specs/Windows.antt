@@ -1,6 +1,6 @@
 -- A terminal's window on its paper. Assumes nothing.
 use mathlib.Core.Path.{_≡_}
-use mathlib.Core.Bool.{Bool, false}
+use mathlib.Core.Bool.{false}
 use Prim.Native.Nat.{ℕ, _+_, _≤_, _<_}
 use Rattle.std.specs.declared.option.Option.the-variants.{Some}
 use Rattle.screen.specs.Screen.{Screen, Geometry}

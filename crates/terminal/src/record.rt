@@ -1,5 +1,5 @@
 // A terminal that keeps the bytes written to it.
-ghost use Prim.Native.Nat.{ℕ, _≤_};
+ghost use Prim.Native.Nat.{_≤_};
 ghost use Rattle.std.specs.Of.Vec.{vec-len};
 use crate::size::Size;
 

@@ -1,12 +1,11 @@
 use mathlib.Core.Path.{_≡_, refl, sym, subst}
 use mathlib.Core.List.{List}
-use Prim.Native.Nat.{ℕ, _+_, _<_, _≤_}
+use Prim.Native.Nat.{ℕ, _<_}
 use lib.Dec.{lit<}
 use lib.ListN.{length, length-drop}
 use native.Mathlib.Omega.{arith}
 use Rattle.std.specs.declared.result.Result.{Result}
 use Rattle.std.specs.declared.result.Result.the-variants.{Ok, Err}
-use Rattle.terminal.specs.declared.terminal.WriteAnswer.{WriteAnswer}
 use Rattle.terminal.specs.declared.terminal.WriteAnswer.the-variants.{Took, Interrupted}
 use Rattle.terminal.specs.declared.writing.WriteFault.the-variants as faults
 use Rattle.terminal.specs.declared.writing.BrokenWrite.{BrokenWrite}

@@ -1,5 +1,5 @@
-use mathlib.Core.Path.{_≡_, ap, subst, sym, _∙_}
-use Prim.Native.Nat.{_≤_, min}
+use mathlib.Core.Path.{ap, _∙_}
+use Prim.Native.Nat.{min}
 use lib.ListN.{length, take}
 use native.Mathlib.Omega.{arith}
 use Rattle.screen.specs.Screen.{blankScreen}

@@ -1,6 +1,6 @@
 use mathlib.Core.Path.{_≡_, refl, sym, ap, _∙_}
-use mathlib.Core.List.{List, _++_}
-use Prim.Native.Nat.{ℕ, _+_, _-_, _≤_, _<_, min}
+use mathlib.Core.List.{_++_}
+use Prim.Native.Nat.{_+_, _-_, _≤_, _<_, min}
 use native.Mathlib.Omega.{arith}
 use lib.ListN.{length, take, drop}
 use lib.Seq.{length-take-le}
@@ -9,7 +9,6 @@ use Rattle.std.proofs.shelf.Lists.{refilled-is}
 use Rattle.std.proofs.shelf.Tests.{eqb-false}
 use Rattle.terminal.specs.Answers.{answerFor}
 use Rattle.terminal.specs.Recording.{room}
-use Rattle.terminal.specs.declared.terminal.WriteAnswer.the-variants.{Took}
 use Rattle.terminal.proofs.Feeds.{took-some}
 use Rattle.terminal.proofs.recording.RecordTerminal.write.Needs as need
 

@@ -1,0 +1,3 @@
+mod Ending
+mod Prompting
+mod Planning

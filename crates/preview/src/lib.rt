@@ -1,0 +1,2 @@
+//! A prepared caption, held against the screen that it will be typed on.
+pub mod preview;
