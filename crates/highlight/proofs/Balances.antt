@@ -1,4 +1,4 @@
--- The search for a bracket's partner, index by index.
+-- The search for a bracket's partner, index by index. Assumes nothing.
 use mathlib.Core.Path.{_≡_, refl, sym, ap, subst, _∙_}
 use mathlib.Core.Bool.{Bool, true, false, cond}
 use mathlib.Core.List.{List, [], _∷_, reverse}

@@ -1,4 +1,4 @@
--- What is answered for a bracket is its partner.
+-- What is answered for a bracket is its partner. Assumes nothing.
 use mathlib.Core.Path.{_≡_, refl, sym, ap, _∙_}
 use mathlib.Core.Bool.{Bool, true, false, cond, _&&_}
 use mathlib.Core.List.{List, [], _∷_, reverse}

@@ -1,4 +1,4 @@
--- Bytes written one after another to the front of a place.
+-- Bytes written one after another to the front of a place. Assumes nothing.
 use mathlib.Core.Path.{_≡_, refl, sym, ap, _∙_}
 use mathlib.Core.List.{List, [], _++_}
 use Prim.Native.Nat.{ℕ, _+_, _-_, _≤_}

@@ -24,6 +24,10 @@ abbrev pub partner : ℕ → ℕ
 partner b =
     cond (eqb b 40) 41 (cond (eqb b 41) 40 (cond (eqb b 91) 93 (cond (eqb b 93) 91 (cond (eqb b 123) 125 (cond (eqb b 125) 123 b)))))
 
+-- the number of a bracket: 1 an opening one, whose partner is looked for behind it; 2 a closing one, whose partner is looked for before it; 0 no bracket
+abbrev pub bracketNumber : Bracket → ℕ
+bracketNumber b = cond (isOpen (b .byte)) 1 (cond (isClose (b .byte)) 2 0)
+
 -- the byte at an index of a line, as a bracket
 abbrev pub bracketAt : List ℕ → ℕ → Bracket
 bracketAt line i = record { byte = getD line i 0; at = i }

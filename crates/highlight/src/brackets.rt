@@ -3,13 +3,28 @@ ghost use mathlib.Core.Path.{_≡_};
 ghost use mathlib.Core.Bool.{true};
 ghost use Prim.Native.Nat.{ℕ, _+_, _-_, _<_, _≤_};
 ghost use lib.ListN.{length};
-ghost use Rattle.highlight.specs.Brackets.{isOpen, isClose, partner, checked, lastClosing, partnerAhead, partnerBefore, matching, Matched};
+ghost use Rattle.highlight.specs.Brackets.{bracketNumber, isOpen, isClose, partner, checked, lastClosing, partnerAhead, partnerBefore, matching, Matched};
 
 // A bracket and its index in a line.
 #[derive(Clone, Copy, PartialEq, Eq, Debug)]
 pub struct Bracket {
     pub byte: u8,
     pub at: usize,
+}
+
+impl Bracket {
+    // The bracket's number: 1 opening, 2 closing, 0 another byte.
+    pub fn number(self) -> u8
+        ensures { λ r. ⌜ r ≡ bracketNumber self ⌝ }
+    {
+        if is_open_bracket(self.byte) {
+            1
+        } else if is_close_bracket(self.byte) {
+            2
+        } else {
+            0
+        }
+    }
 }
 
 // The bracket that goes with a bracket; another byte goes with itself.

@@ -59,10 +59,13 @@ module _ (d : Geometry) (prompt : List ℕ) (broad : 2 ≤ d .cols) (wide : d .c
   -- both places are one
   pub stayed : (p q : Page) (s : Screen) → Showing d prompt false p s → Fit d prompt p → Fit d prompt q → Beside p q → cursorRow d prompt p ≡ cursorRow d prompt q → cursorCol d prompt p ≡ cursorCol d prompt q → Showing d prompt false q s
   stayed p q s w f g b er ec = record {
-      paper = w .paper ∙ beside-paper p q b;
-      row = at-row p s w f ∙ (λ i. sym (b .base) i + er i) ∙ sym (live-row d prompt broad wide high q (g .live));
-      col = at-col p s w f ∙ ec ∙ sym (live-col d prompt broad wide high q (g .live));
-      window = w .window ∙ sym (b .window); held = w .held; idle = w .idle }
+    paper = w .paper ∙ beside-paper p q b;
+    row = at-row p s w f ∙ (λ i. sym (b .base) i + er i) ∙ sym (live-row d prompt broad wide high q (g .live));
+    col = at-col p s w f ∙ ec ∙ sym (live-col d prompt broad wide high q (g .live));
+    window = w .window ∙ sym (b .window);
+    held = w .held;
+    idle = w .idle;
+  }
 
   -- the cursor moves
   pub moved : (p q : Page) (s : Screen) → Showing d prompt false p s → Fit d prompt p → Fit d prompt q → Beside p q → Showing d prompt false q (feed d (movePage d prompt p q) s)
@@ -70,7 +73,7 @@ module _ (d : Geometry) (prompt : List ℕ) (broad : 2 ≤ d .cols) (wide : d .c
       let paper = over (p .base) (p .upper) (block d (blockText prompt p) .paper) in
       let below : p .base + cursorRow d prompt q < p .window + d .rows = subst (λ n. n + cursorRow d prompt q < p .window + d .rows) (b .base) (subst (λ n. q .base + cursorRow d prompt q < n + d .rows) (b .window) (cursor-low q g)) in
       let m = moved-is d paper (p .base) (p .window) false (f .shown) wide high (cursorRow d prompt p) (cursorCol d prompt p) (cursorRow d prompt q) (cursorCol d prompt q) (s .pen .join)
-            (cursor-low p f) below (place-col d (block d (frontText prompt p)) (omega arith)) (place-col d (block d (frontText prompt q)) (omega arith)) in
+      (cursor-low p f) below (place-col d (block d (frontText prompt p)) (omega arith)) (place-col d (block d (frontText prompt q)) (omega arith)) in
       subst (Showing d prompt false q) (sym (ap (feed d (movePage d prompt p q)) (page-view p s w f) ∙ m .1))
       (record { paper = beside-paper p q b; row = (λ i. sym (b .base) i + cursorRow d prompt q) ∙ sym (live-row d prompt broad wide high q (g .live)); col = sym (live-col d prompt broad wide high q (g .live)); window = sym (b .window); held = refl; idle = refl })
 
@@ -83,7 +86,7 @@ module _ (d : Geometry) (prompt : List ℕ) (broad : 2 ≤ d .cols) (wide : d .c
   inserted p q c s w f g ef eb eq base upper win sc co wi le =
       let cs = blockText prompt p in
       let here : OnScreen d (p .base) (p .upper) cs (placeRow d (block d cs)) (placeCol d (block d cs)) s =
-            record { idle = w .idle; paper = w .paper; line = at-row p s w f ∙ ap (λ (x : List ℕ). p .base + placeRow d (block d x)) ef; place = at-col p s w f ∙ ap (λ (x : List ℕ). placeCol d (block d x)) ef; shown = rw (w .window) (f .shown); tall = rw (w .window) (f .tall) } in
+      record { idle = w .idle; paper = w .paper; line = at-row p s w f ∙ ap (λ (x : List ℕ). p .base + placeRow d (block d x)) ef; place = at-col p s w f ∙ ap (λ (x : List ℕ). placeCol d (block d x)) ef; shown = rw (w .window) (f .shown); tall = rw (w .window) (f .tall) } in
       let i = inserts-proof d (p .base) (p .upper) cs c s here sc co wi (subst (λ (x : List ℕ). placeCol d (block d x) + d .width c < d .cols) ef le) in
       let row : cursorRow d prompt q ≡ placeRow d (block d (cs ++ (c ∷ []))) = ap (λ (x : List ℕ). placeRow d (block d x)) (eq ∙ eb) in
       let col : cursorCol d prompt q ≡ placeCol d (block d (cs ++ (c ∷ []))) = ap (λ (x : List ℕ). placeCol d (block d x)) (eq ∙ eb) in
@@ -94,7 +97,9 @@ module _ (d : Geometry) (prompt : List ℕ) (broad : 2 ≤ d .cols) (wide : d .c
         row = i .page .line ∙ (λ k. sym base k + sym row k) ∙ sym (live-row d prompt broad wide high q (g .live));
         col = i .page .place ∙ sym col ∙ sym (live-col d prompt broad wide high q (g .live));
         window = i .window ∙ w .window ∙ sym (win ∙ ap (λ n. max (p .window) (suc (n + endRow d prompt q) - d .rows)) base ∙ omega (arith, end));
-        held = i .held ∙ w .held; idle = i .page .idle }
+        held = i .held ∙ w .held;
+        idle = i .page .idle;
+      }
 
   -- after a block and an LF the rows below are blank
   rows-blank : (r : ℕ) (up : Paper) (xs : List ℕ) (i j : ℕ) → r + suc (block d xs .row) ≤ i → over r up (block d xs .paper) i j ≡ Blank
@@ -103,7 +108,7 @@ module _ (d : Geometry) (prompt : List ℕ) (broad : 2 ≤ d .cols) (wide : d .c
   -- a notice's text and its LF, from the start of a row where nothing stands
   pub printed-is : (r : ℕ) (up : Paper) (bs xs : List ℕ) (s : Screen) → s .top ≤ r → r < s .top + d .rows → Styled bs xs
       → feed d (10 ∷ []) (feed d bs (stand (cut r up) r s))
-        ≡ stand (cut (r + suc (block d xs .row)) (over r up (block d xs .paper))) (r + suc (block d xs .row)) (view blankPaper 0 0 None (max (s .top) (suc (r + suc (block d xs .row)) - d .rows)) (s .held))
+      ≡ stand (cut (r + suc (block d xs .row)) (over r up (block d xs .paper))) (r + suc (block d xs .row)) (view blankPaper 0 0 None (max (s .top) (suc (r + suc (block d xs .row)) - d .rows)) (s .held))
   printed-is r up bs xs s above inside st =
       ap (feed d (10 ∷ [])) (draw-page d r up bs xs s above inside st)
       ∙ line-feed-is d (over r up (block d xs .paper)) (r + block d xs .row) (block d xs .col) (block d xs .join) (max (s .top) (suc (r + block d xs .row) - d .rows)) (s .held)
@@ -111,6 +116,7 @@ module _ (d : Geometry) (prompt : List ℕ) (broad : 2 ≤ d .cols) (wide : d .c
     where
       rows : suc (r + block d xs .row) ≡ r + suc (block d xs .row)
       rows = omega arith
+
       tops : max (max (s .top) (suc (r + block d xs .row) - d .rows)) (suc (suc (r + block d xs .row)) - d .rows) ≡ max (s .top) (suc (r + suc (block d xs .row)) - d .rows)
       tops = omega arith
 
@@ -120,9 +126,11 @@ module _ (d : Geometry) (prompt : List ℕ) (broad : 2 ≤ d .cols) (wide : d .c
     where
       paper : Paper
       paper = over (p .base) (p .upper) (block d (blockText prompt p) .paper)
+
       last : (o : Option ℕ) → Showing d prompt false (closed d prompt p) (feed d (10 ∷ []) (view (over (p .base) (p .upper) (block d (blockText prompt p) .paper)) (p .base + endRow d prompt p) (endCol d prompt p) o (p .window) false))
       last o = subst (Showing d prompt false (closed d prompt p)) (sym (line-feed-is d (over (p .base) (p .upper) (block d (blockText prompt p) .paper)) (p .base + endRow d prompt p) (endCol d prompt p) o (p .window) false))
           (record { paper = refl; row = omega arith; col = refl; window = refl; held = refl; idle = refl })
+
       go : (b : Bool) → (eqb (cursorRow d prompt p) (endRow d prompt p) && eqb (cursorCol d prompt p) (endCol d prompt p)) ≡ b
           → Showing d prompt false (closed d prompt p) (feed d (10 ∷ []) (feedAll d (cond b [] (moveBytes (cursorRow d prompt p) (cursorCol d prompt p) (endRow d prompt p) (endCol d prompt p) ∷ [])) s))
       go true e =
@@ -132,15 +140,17 @@ module _ (d : Geometry) (prompt : List ℕ) (broad : 2 ≤ d .cols) (wide : d .c
           subst (λ t. Showing d prompt false (closed d prompt p) (feed d (10 ∷ []) t)) (sym (page-view p s w f ∙ (λ i. view (over (p .base) (p .upper) (block d (blockText prompt p) .paper)) (p .base + er i) (ec i) (s .pen .join) (p .window) false))) (last (s .pen .join))
       go false e =
           let m = moved-is d (over (p .base) (p .upper) (block d (blockText prompt p) .paper)) (p .base) (p .window) false (f .shown) wide high (cursorRow d prompt p) (cursorCol d prompt p) (endRow d prompt p) (endCol d prompt p) (s .pen .join)
-                (cursor-low p f) (f .tall) (place-col d (block d (frontText prompt p)) (omega arith)) (place-col d (block d (blockText prompt p)) (omega arith)) in
+          (cursor-low p f) (f .tall) (place-col d (block d (frontText prompt p)) (omega arith)) (place-col d (block d (blockText prompt p)) (omega arith)) in
           subst (λ t. Showing d prompt false (closed d prompt p) (feed d (10 ∷ []) t)) (sym (ap (feed d (moveBytes (cursorRow d prompt p) (cursorCol d prompt p) (endRow d prompt p) (endCol d prompt p))) (page-view p s w f) ∙ m .1)) (last (m .0))
 
   -- after a finish the terminal is ready
   pub finished-ready : (p : Page) (s : Screen) → Fit d prompt p → Showing d prompt false (closed d prompt p) s → Ready s
   finished-ready p s f w = record {
-      column = w .col;
-      blank = λ i j h. ap (λ (x : Paper). x i j) (w .paper) ∙ ap (λ (x : Row). x j) (over-under (p .base) (p .upper) (block d (blockText prompt p) .paper) i (omega (arith, w .row))) ∙ block-blank d (blockText prompt p) (i - p .base) j (omega (arith, w .row, place-least d (block d (blockText prompt p))));
-      free = w .held; finished = w .idle }
+    column = w .col;
+    blank = λ i j h. ap (λ (x : Paper). x i j) (w .paper) ∙ ap (λ (x : Row). x j) (over-under (p .base) (p .upper) (block d (blockText prompt p) .paper) i (omega (arith, w .row))) ∙ block-blank d (blockText prompt p) (i - p .base) j (omega (arith, w .row, place-least d (block d (blockText prompt p))));
+    free = w .held;
+    finished = w .idle;
+  }
 
   -- home and erase, whatever is unfinished
   pub cleared : (up : Paper) (s : Screen) → Kept d s → 0 < d .rows → s .pen .paper ≡ up → Clean d prompt broad wide high (s .top) up (s .top) (feed d clearBytes s) × (feed d clearBytes s .held ≡ s .held)

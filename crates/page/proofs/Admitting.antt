@@ -71,9 +71,10 @@ module _ (d : Geometry) (prompt : List ℕ) where
       record {
         proper = cond-both (stays d prompt p e) e _ (Proper d prompt) (λ t. record { line = q .line; place = pf; note = q .note; hint = q .hint; low = q .low; shown = q .shown; tall = q .tall; live = q .live })
             (λ t. cond-both (r .yes || p .lit) (settled d prompt (noted d prompt None (e .hint) (r .yes) e)) (noted d prompt (e .note) (e .hint) (r .yes) e) (Proper d prompt)
-                (λ u. settled-proper d prompt (noted d prompt None (e .hint) (r .yes) e) (record { line = q .line; place = pf; note = λ t e. some-none e; hint = q .hint; low = w .bare; shown = q .shown; live = q .live }))
-                (λ u. record { line = q .line; place = pf; note = q .note; hint = q .hint; low = q .low; shown = q .shown; tall = q .tall; live = q .live }));
-        bare = cond-both (stays d prompt p e) e _ (λ (y : Page). Bare-low d prompt (y .line)) (λ t. w .bare) (λ t. cond-both (r .yes || p .lit) (settled d prompt (noted d prompt None (e .hint) (r .yes) e)) (noted d prompt (e .note) (e .hint) (r .yes) e) (λ (y : Page). Bare-low d prompt (y .line)) (λ u. w .bare) (λ u. w .bare)) }
+            (λ u. settled-proper d prompt (noted d prompt None (e .hint) (r .yes) e) (record { line = q .line; place = pf; note = λ t e. some-none e; hint = q .hint; low = w .bare; shown = q .shown; live = q .live }))
+            (λ u. record { line = q .line; place = pf; note = q .note; hint = q .hint; low = q .low; shown = q .shown; tall = q .tall; live = q .live }));
+        bare = cond-both (stays d prompt p e) e _ (λ (y : Page). Bare-low d prompt (y .line)) (λ t. w .bare) (λ t. cond-both (r .yes || p .lit) (settled d prompt (noted d prompt None (e .hint) (r .yes) e)) (noted d prompt (e .note) (e .hint) (r .yes) e) (λ (y : Page). Bare-low d prompt (y .line)) (λ u. w .bare) (λ u. w .bare));
+      }
   after-proper s refresh r ok p nc nf g tf pf hf w =
       let q = w .proper in
       record { proper = hinted-proper d prompt r p g (q .line) (q .place) (w .bare) (q .shown) (q .live); bare = w .bare }

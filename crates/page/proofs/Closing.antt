@@ -30,6 +30,7 @@ front-good t g e = good-text-cut t (length t - 1) g (boundary-before-ascii t (le
     some : (t : List ℕ) → t ≡ take (length t - 1) t ++ (10 ∷ []) → length t - 1 < length t
     some [] e = absurd (clash (ap (λ (x : List ℕ). eqb (length x) 0) (sym e)))
     some (b ∷ bs) e = omega arith
+
     last : (t : List ℕ) → t ≡ take (length t - 1) t ++ (10 ∷ []) → getD t (length t - 1) 0 < 128
     last t e = let h : getD t (length t - 1) 0 ≡ 10 = ap (λ (x : List ℕ). getD x (length t - 1) 0) e ∙ getD-seam (take (length t - 1) t) 10 (length t - 1) (length-take-le (length t - 1) t (omega arith)) in omega arith
       where

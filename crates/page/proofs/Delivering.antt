@@ -56,19 +56,28 @@ module _ {T H : Type 0} (w : World T H) (meant : Meant w) (z : Size) where
       let a = ends-wrote (w .columns) (w .screen) (w .extent) (w .answered) (meant .works) (meant .fixed) v s (Ok tt) u h in
       let b : w .screen u ≡ feed shape v (w .screen s) = subst (λ d. w .screen u ≡ feed d v (w .screen s)) (sized s e) a in
       let x = delivered u t vs (Ok tt) (ends-fixed (w .columns) (w .screen) (w .extent) (w .answered) (meant .works) (meant .fixed) v s (Ok tt) u h ∙ e) k in
-      record { size = x .size; count = length v + x .count;
-               part = x .part ∙ ap (feed shape (take (x .count) (joined vs))) b ∙ sym (feed-append shape v (take (x .count) (joined vs)) (w .screen s)) ∙ ap (λ (bs : List ℕ). feed shape bs (w .screen s)) (sym (take-past v (joined vs) (x .count)));
-               all = λ o. x .all o ∙ ap (feedAll shape vs) b }
+      record {
+        size = x .size;
+        count = length v + x .count;
+        part = x .part ∙ ap (feed shape (take (x .count) (joined vs))) b ∙ sym (feed-append shape v (take (x .count) (joined vs)) (w .screen s)) ∙ ap (λ (bs : List ℕ). feed shape bs (w .screen s)) (sym (take-past v (joined vs) (x .count)));
+        all = λ o. x .all o ∙ ap (feedAll shape vs) b;
+      }
   delivered s t ws r e (later {t = u} {w = v} {ws = vs} {n = n} {e = f} h k) =
       let a = ends-wrote (w .columns) (w .screen) (w .extent) (w .answered) (meant .works) (meant .fixed) v s (Ok tt) u h in
       let b : w .screen u ≡ feed shape v (w .screen s) = subst (λ d. w .screen u ≡ feed d v (w .screen s)) (sized s e) a in
       let x = delivered u t vs (Err (record { number = n; write = f })) (ends-fixed (w .columns) (w .screen) (w .extent) (w .answered) (meant .works) (meant .fixed) v s (Ok tt) u h ∙ e) k in
-      record { size = x .size; count = length v + x .count;
-               part = x .part ∙ ap (feed shape (take (x .count) (joined vs))) b ∙ sym (feed-append shape v (take (x .count) (joined vs)) (w .screen s)) ∙ ap (λ (bs : List ℕ). feed shape bs (w .screen s)) (sym (take-past v (joined vs) (x .count)));
-               all = λ o. absurd (clash o) }
+      record {
+        size = x .size;
+        count = length v + x .count;
+        part = x .part ∙ ap (feed shape (take (x .count) (joined vs))) b ∙ sym (feed-append shape v (take (x .count) (joined vs)) (w .screen s)) ∙ ap (λ (bs : List ℕ). feed shape bs (w .screen s)) (sym (take-past v (joined vs) (x .count)));
+        all = λ o. absurd (clash o);
+      }
   delivered s t ws r e (broke {w = v} {ws = vs} {e = f} h) =
       let a = ends-wrote (w .columns) (w .screen) (w .extent) (w .answered) (meant .works) (meant .fixed) v s (Err f) t h in
       let b : w .screen t ≡ feed shape (take (f .taken) v) (w .screen s) = subst (λ d. w .screen t ≡ feed d (take (f .taken) v) (w .screen s)) (sized s e) (a .drawn) in
-      record { size = ends-fixed (w .columns) (w .screen) (w .extent) (w .answered) (meant .works) (meant .fixed) v s (Err f) t h ∙ e; count = f .taken;
-               part = b ∙ ap (λ (bs : List ℕ). feed shape bs (w .screen s)) (sym (take-append-le (f .taken) v (joined vs) (let q = a .short in omega arith)));
-               all = λ o. absurd (clash o) }
+      record {
+        size = ends-fixed (w .columns) (w .screen) (w .extent) (w .answered) (meant .works) (meant .fixed) v s (Err f) t h ∙ e;
+        count = f .taken;
+        part = b ∙ ap (λ (bs : List ℕ). feed shape bs (w .screen s)) (sym (take-append-le (f .taken) v (joined vs) (let q = a .short in omega arith)));
+        all = λ o. absurd (clash o);
+      }

@@ -49,8 +49,14 @@ direct-is d prompt bs n r p q e =
     let f = and-parts (ltb (cursorCol d prompt p + total (d .width) (decodes bs)) (d .cols)) _ (c .1) in
     let g = and-parts (not (isSome (p .note))) _ (f .1) in
     let h = and-parts (not (isSome (q .note))) _ (g .1) in
-    record { end = eqb-true (p .pos) (length (p .line)) (a .0); once = eqb-true n 1 (b .0); wide = ltb-true 0 (total (d .width) (decodes bs)) (c .0);
-             within = ltb-true (cursorCol d prompt p + total (d .width) (decodes bs)) (d .cols) (f .0); clear = no-note (p .note) (g .0); bare = no-note (q .note) (h .0) }
+    record {
+      end = eqb-true (p .pos) (length (p .line)) (a .0);
+      once = eqb-true n 1 (b .0);
+      wide = ltb-true 0 (total (d .width) (decodes bs)) (c .0);
+      within = ltb-true (cursorCol d prompt p + total (d .width) (decodes bs)) (d .cols) (f .0);
+      clear = no-note (p .note) (g .0);
+      bare = no-note (q .note) (h .0);
+    }
 
 -- the character that an insert brings
 pub record Brought (w : ℕ → ℕ) (bs : List ℕ) : Type 0 where

@@ -126,20 +126,28 @@ module _ {T H : Type 0} (w : World T H) (z : Settings) (meant : Meant w) (rawSho
     where
       col : (x : Page) → cursorCol d prompt x < 2 ^ 64
       col x = let h = place-col d (block d (frontText prompt x)) (let b = broad in omega arith) in let n = z .size .narrow in omega arith
+
       rows : (x : Page) → Lived-page d prompt x → endRow d prompt x < 2 ^ 64
       rows x l = let h = l .proper .low in let n = z .size .low in omega arith
+
       crow : (x : Page) → Lived-page d prompt x → cursorRow d prompt x < 2 ^ 64
       crow x l = let h = cursor-end d prompt broad wide high x (fit d prompt good x (l .proper)) in let n = rows x l in omega arith
+
       ecol : (x : Page) → endCol d prompt x < 2 ^ 64
       ecol x = let h = place-col d (block d (blockText prompt x)) (let b = broad in omega arith) in let n = z .size .narrow in omega arith
+
       draw : Styled (styledBlock r) (blockText prompt q) → Rests (drawPage d prompt r q)
       draw s = rests-draw d (styledBlock r) (blockText prompt q) (frontText prompt q) s (rows q lq) (col q)
+
       erase : Rests (erasePage d prompt p)
       erase = rests-erase (endRow d prompt p - cursorRow d prompt p) (endRow d prompt p) (let n = rows p lp in omega arith)
+
       redrawing : Styled (styledBlock r) (blockText prompt q) → AllRest (redraw d prompt false r p q)
       redrawing s = (rests-append (erasePage d prompt p) (drawPage d prompt r q) erase (draw s), tt)
+
       first : Styled (styledBlock r) (blockText prompt q) → AllRest (firstPage d prompt false r q)
       first s = (rests-append (eraseBytes 0 0) (drawPage d prompt r q) (rests-erase 0 0 (omega arith)) (draw s), tt)
+
       by : (a : Act) → TextFine a → (draws w z a r p q ≡ true → Styled (styledBlock r) (blockText prompt q)) → AllRest (writes d prompt false torn a r p q)
       by create tf st = first (st refl)
       by (insert c n) tf st = rest-cond (direct d prompt c n r p q) (c ∷ []) (redraw d prompt false r p q) (λ e. (rests-styled c (decodes c) (styled-decodes c (one-good c tf)), tt)) (λ e. redrawing (st (ap not e)))
@@ -153,7 +161,7 @@ module _ {T H : Type 0} (w : World T H) (z : Settings) (meant : Meant w) (rawSho
       by clear tf st = rest-both (letGo d prompt false torn) (clearBytes ∷ firstPage d prompt false r q) (rest-cond (torn && false) (releaseBytes ∷ []) [] (λ e. absurd (clash (sym (and-right torn false refl) ∙ e))) (λ e. tt)) (rests-clear, first (st refl))
       by finish tf st = rest-both (toEnd d prompt p) ((10 ∷ []) ∷ [])
           (rest-cond (eqb (cursorRow d prompt p) (endRow d prompt p) && eqb (cursorCol d prompt p) (endCol d prompt p)) [] (moveBytes (cursorRow d prompt p) (cursorCol d prompt p) (endRow d prompt p) (endCol d prompt p) ∷ []) (λ e. tt)
-            (λ e. (rests-moves (cursorRow d prompt p) (cursorCol d prompt p) (endRow d prompt p) (endCol d prompt p) (crow p lp) (col p) (rows p lp) (ecol p), tt)))
+          (λ e. (rests-moves (cursorRow d prompt p) (cursorCol d prompt p) (endRow d prompt p) (endCol d prompt p) (crow p lp) (col p) (rows p lp) (ecol p), tt)))
           (rests-byte 10 (eqb-false 10 27 refl), tt)
 
   -- the screen of a page has no mark on its way
@@ -204,14 +212,18 @@ module _ {T H : Type 0} (w : World T H) (z : Settings) (meant : Meant w) (rawSho
     where
       p : Page
       p = m .page
+
       scr : Screen
       scr = w .screen (m .terminal)
+
       from : (a : Act) → mends a ≡ false → (m .torn && not (mends a)) ≡ false → Showing d (z .prompt) false (m .page) (w .screen (m .terminal))
       from a k u = shows-showing d prompt (m .page) (w .screen (m .terminal)) (s .shown (untorn-is (m .torn) a k u))
+
       keep : (a : Act) → mends a ≡ false → (m .torn && not (mends a)) ≡ false → (x : Page) → q ≡ settled d (z .prompt) x → x .base ≡ m .page .base → x .upper ≡ m .page .upper → x .window ≡ m .page .window
           → Styled (styledBlock r) (blockText (z .prompt) q) → Showing d (z .prompt) false q (feedAll d (redraw d (z .prompt) (z .holds) r (m .page) q) (w .screen (m .terminal)))
       keep a k u x e eb eu ew st = anew d prompt good broad wide high tall (z .holds) r (m .page) q (w .screen (m .terminal)) (from a k u) (s .page) lq (ap (λ (y : Page). y .base) e ∙ eb) (ap (λ (y : Page). y .upper) e ∙ eu)
           (ap (λ (y : Page). y .window) e ∙ ap (λ n. max n (suc (x .base + endRow d prompt (settled d prompt x)) - d .rows)) ew ∙ ap (λ (y : Page). max (m .page .window) (suc (y .base + endRow d prompt y) - d .rows)) (sym e)) st
+
       by : (a : Act) → (a ≡ create → ⊥) → (a ≡ finish → ⊥) → (m .torn && not (mends a)) ≡ false → TextFine a → q ≡ pageAfter d (z .prompt) (w .screen (m .terminal)) a r true (m .page) → (draws w z a r (m .page) q ≡ true → Styled (styledBlock r) (blockText (z .prompt) q))
           → Showing d (z .prompt) false q (feedAll d (writes d (z .prompt) (z .holds) (m .torn) a r (m .page) q) (w .screen (m .terminal)))
       by create nc nf u tf e st = absurd (nc refl)
@@ -268,7 +280,8 @@ module _ {T H : Type 0} (w : World T H) (z : Settings) (meant : Meant w) (rawSho
         page = l;
         shown = λ t. let o = err-ok r (sym (g .torn) ∙ t) in
             showing-shows d prompt (n .page) (w .screen (n .terminal)) (subst (Showing d prompt false (n .page)) (sym (x .all o))
-            (act-shows m a (g .replies) (n .page) s l nc (λ f. absurd (clash (sym (nf f) ∙ o))) (ad .untorn) (ad .text) (g .page ∙ ap (λ b. pageAfter d prompt (w .screen (m .terminal)) a (g .replies) b (m .page)) o) (lies-styled m n a r g l))) }
+            (act-shows m a (g .replies) (n .page) s l nc (λ f. absurd (clash (sym (nf f) ∙ o))) (ad .untorn) (ad .text) (g .page ∙ ap (λ b. pageAfter d prompt (w .screen (m .terminal)) a (g .replies) b (m .page)) o) (lies-styled m n a r g l)));
+      }
 
   refused-sane : (m n : Moment T H) → Sane m → n ≡ m → Sane n
   refused-sane m n s e = subst Sane (sym e) s
@@ -290,9 +303,10 @@ module _ {T H : Type 0} (w : World T H) (z : Settings) (meant : Meant w) (rawSho
       let x = through m n finish (Ok tt) g (s .size) in
       let f = fit d prompt good (m .page) (s .page .proper) in
       let here = shows-showing d prompt (m .page) (w .screen (m .terminal)) (s .shown (untorn-is (m .torn) finish refl (ad .untorn))) in
-      let there : Showing d prompt false (closed d prompt (m .page)) (w .screen (n .terminal)) = subst (Showing d prompt false (closed d prompt (m .page))) (sym (x .all refl)) (finished d prompt broad wide high (m .page) (w .screen (m .terminal)) here f) in
-      ( (λ t. subst (λ (q : Page). Shows d prompt q (w .screen (n .terminal))) (sym (g .page)) (showing-shows d prompt (closed d prompt (m .page)) (w .screen (n .terminal)) there))
-      , finished-ready d prompt broad wide high (m .page) (w .screen (n .terminal)) f there )
+      let there : Showing d prompt false (closed d prompt (m .page)) (w .screen (n .terminal)) = subst (Showing d prompt false (closed d prompt (m .page))) (sym (x .all refl)) (finished d prompt broad wide high (m .page) (w .screen (m .terminal)) here f) in (
+        (λ t. subst (λ (q : Page). Shows d prompt q (w .screen (n .terminal))) (sym (g .page)) (showing-shows d prompt (closed d prompt (m .page)) (w .screen (n .terminal)) there)),
+        finished-ready d prompt broad wide high (m .page) (w .screen (n .terminal)) f there,
+      )
 
   -- create on a ready terminal of the checked size
   ready-kept : (t : T) → w .extent t ≡ z .size → Ready (w .screen t) → Kept d (w .screen t)
@@ -308,7 +322,7 @@ module _ {T H : Type 0} (w : World T H) (z : Settings) (meant : Meant w) (rawSho
       let eu : n .page .upper ≡ s .pen .paper = ap (λ (y : Page). y .upper) (g .page) in
       let ew : n .page .window ≡ max (s .top) (suc (n .page .base + endRow d prompt (n .page)) - d .rows) = ap (λ (y : Page). y .window) (g .page) ∙ ap (λ (y : Page). max (s .top) (suc (y .base + endRow d prompt y) - d .rows)) (sym (g .page)) in
       let c : Clean d prompt broad wide high (n .page .base) (n .page .upper) (s .top) s =
-            record { paper = sym (over-blank (s .pen .row) (s .pen .paper) (rd .blank)) ∙ (λ i. cut (sym eb i) (sym eu i)); row = sym eb; above = subst (λ b. s .top ≤ b) (sym eb) (k .above); inside = subst (λ b. b < s .top + d .rows) (sym eb) (k .inside); window = refl; idle = rd .finished } in
+      record { paper = sym (over-blank (s .pen .row) (s .pen .paper) (rd .blank)) ∙ (λ i. cut (sym eb i) (sym eu i)); row = sym eb; above = subst (λ b. s .top ≤ b) (sym eb) (k .above); inside = subst (λ b. b < s .top + d .rows) (sym eb) (k .inside); window = refl; idle = rd .finished } in
       showing-shows d prompt (n .page) (w .screen (n .terminal)) (subst (Showing d prompt false (n .page)) (sym (x .all refl))
       (shows-first d prompt good broad wide high tall (z .holds) (g .replies) (n .page) (s .top) s c (rd .free) l ew (lies-styled m n create (Ok tt) g l refl)))
 
@@ -330,11 +344,13 @@ module _ {T H : Type 0} (w : World T H) (z : Settings) (meant : Meant w) (rawSho
             subst (Loose true true) (sym (x .part ∙ ap (λ b. feed d (take (x .count) (joined (writes d prompt b (m .torn) create (g .replies) (m .page) (n .page)))) (w .screen (m .terminal))) h))
             (loose-feed d (take (x .count) (joined ws)) false false (w .screen (m .terminal)) (calm-take (x .count) (joined ws) false false (rests-calm (joined ws) (rest-joined ws rest))) (ready-loose (w .screen (m .terminal)) rd));
         page = l;
-        shown = λ t. by r g l t }
+        shown = λ t. by r g l t;
+      }
     where
       by : (r : Result Unit BrokenAct) → (g : Went w z m create r n) → Lived-page d (z .prompt) (n .page) → n .torn ≡ false → Shows d (z .prompt) (n .page) (w .screen (n .terminal))
       by (Ok u) g l t = create-shown m n g (ready-kept (m .terminal) e rd) e rd l
       by (Err b) g l t = absurd (clash (sym t ∙ g .torn))
+
       first-rest : (r : Replies) (q : Page) → Lived-page d (z .prompt) q → Styled (styledBlock r) (blockText (z .prompt) q) → AllRest (firstPage d (z .prompt) false r q)
       first-rest r q l s =
           let h = l .proper .low in let n = z .size .low in

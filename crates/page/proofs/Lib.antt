@@ -10,3 +10,4 @@ pub mod Stepping
 pub mod Closing
 pub mod Quieting
 pub mod Lawful
+pub mod Chaining

@@ -39,11 +39,15 @@ module _ (d : Geometry) (prompt : List ℕ) where
 
   pub fit : AllGood prompt → (p : Page) → Proper p → Fit d prompt p
   fit g p w = record {
-      parts = ap (λ (x : List ℕ). prompt ++ (x ++ noteText (p .note))) (cut-decodes (p .line) (p .pos) (w .place))
-              ∙ ap (λ (x : List ℕ). prompt ++ x) (append-assoc (decodes (take (p .pos) (p .line))) (decodes (drop (p .pos) (p .line))) (noteText (p .note)))
-              ∙ sym (append-assoc prompt (decodes (take (p .pos) (p .line))) (backText p));
-      good = all-good-append prompt (decodes (p .line) ++ noteText (p .note)) g (all-good-append (decodes (p .line)) (noteText (p .note)) (good-decodes (p .line) (w .line)) (note-good (p .note) (w .note)));
-      low = w .low; shown = w .shown; tall = w .tall; live = w .live }
+    parts = ap (λ (x : List ℕ). prompt ++ (x ++ noteText (p .note))) (cut-decodes (p .line) (p .pos) (w .place))
+        ∙ ap (λ (x : List ℕ). prompt ++ x) (append-assoc (decodes (take (p .pos) (p .line))) (decodes (drop (p .pos) (p .line))) (noteText (p .note)))
+        ∙ sym (append-assoc prompt (decodes (take (p .pos) (p .line))) (backText p));
+    good = all-good-append prompt (decodes (p .line) ++ noteText (p .note)) g (all-good-append (decodes (p .line)) (noteText (p .note)) (good-decodes (p .line) (w .line)) (note-good (p .note) (w .note)));
+    low = w .low;
+    shown = w .shown;
+    tall = w .tall;
+    live = w .live;
+  }
 
   -- a page before its window follows
   pub record Ready-page (p : Page) : Type 0 where

@@ -62,6 +62,7 @@ rests-char c g = go (encode c) (no-escape c g)
     go : (bs : List ℕ) → ((i : ℕ) → i < length bs → getD bs i 0 ≢ 27) → Rests bs
     go [] h = rests-none
     go (b ∷ bs) h = rests-append (b ∷ []) bs (rests-byte b (h 0 (omega arith))) (go bs (λ i l. h (suc i) (omega arith)))
+
     no-escape : (c : ℕ) → Good c → (i : ℕ) → i < length (encode c) → getD (encode c) i 0 ≢ 27
     no-escape c g i h e = good-not-esc c g (inside-one c [] (encode c) i (sym (append-nil (encode c))) h (omega arith) ∙ e)
 

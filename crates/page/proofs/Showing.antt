@@ -89,6 +89,6 @@ module _ (d : Geometry) (prompt : List ℕ) where
     drawn-page r q s f st above inside win =
         let e = f .parts in
         let is : feed d (drawPage d prompt r q) (stand (cut (q .base) (q .upper)) (q .base) s) ≡ view (over (q .base) (q .upper) (block d (blockText prompt q) .paper)) (q .base + cursorRow d prompt q) (cursorCol d prompt q) None (max (s .top) (suc (q .base + endRow d prompt q) - d .rows)) (s .held) =
-              subst (λ (cs : List ℕ). feed d (drawBytes d (styledBlock r) cs (frontText prompt q)) (stand (cut (q .base) (q .upper)) (q .base) s) ≡ view (over (q .base) (q .upper) (block d cs .paper)) (q .base + cursorRow d prompt q) (cursorCol d prompt q) None (max (s .top) (suc (q .base + placeRow d (block d cs)) - d .rows)) (s .held)) (sym e)
-              (drawn-is d (q .base) (q .upper) s (styledBlock r) (frontText prompt q) (backText q) (omega arith) wide high above inside (subst (Styled (styledBlock r)) e st) (subst (λ (cs : List ℕ). placeRow d (block d cs) < d .rows) e (f .low))) in
+        subst (λ (cs : List ℕ). feed d (drawBytes d (styledBlock r) cs (frontText prompt q)) (stand (cut (q .base) (q .upper)) (q .base) s) ≡ view (over (q .base) (q .upper) (block d cs .paper)) (q .base + cursorRow d prompt q) (cursorCol d prompt q) None (max (s .top) (suc (q .base + placeRow d (block d cs)) - d .rows)) (s .held)) (sym e)
+        (drawn-is d (q .base) (q .upper) s (styledBlock r) (frontText prompt q) (backText q) (omega arith) wide high above inside (subst (Styled (styledBlock r)) e st) (subst (λ (cs : List ℕ). placeRow d (block d cs) < d .rows) e (f .low))) in
         subst (Showing (s .held) q) (sym is) (record { paper = refl; row = sym (live-row q (f .live)); col = sym (live-col q (f .live)); window = sym win; held = refl; idle = refl })

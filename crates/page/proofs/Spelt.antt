@@ -73,6 +73,7 @@ insert-front l t q n h =
     len = length-append (take q l) (times n t) ∙ (λ i. length-take-le q l h i + length-times n t i)
 
 pub insert-boundary : (l t : List ℕ) (q n : ℕ) → GoodText l → AtBoundary l q → GoodText t → AtBoundary (take q l ++ (times n t ++ drop q l)) (q + n * length t)
-insert-boundary l t q n g b k =
-    ( simp (length-append, length-times) (omega (arith, length-take-le q l (b .0)))
-    , subst Utf8 (sym (insert-front l t q n (b .0))) (good-text-utf8 (take q l ++ times n t) (good-text-append (take q l) (times n t) (good-cut l q g b .0) (good-times n t k))) )
+insert-boundary l t q n g b k = (
+  simp (length-append, length-times) (omega (arith, length-take-le q l (b .0))),
+  subst Utf8 (sym (insert-front l t q n (b .0))) (good-text-utf8 (take q l ++ times n t) (good-text-append (take q l) (times n t) (good-cut l q g b .0) (good-times n t k))),
+)

@@ -62,12 +62,12 @@ module _ (d : Geometry) (prompt : List ℕ) (good : AllGood prompt) (broad : 2 �
       let le : cursorCol d prompt p + d .width (c .char) < d .cols = subst (λ m. cursorCol d prompt p + m < d .cols) (c .width) (i .within) in
       subst (λ (x : List ℕ). Showing d prompt false q (feed d x s)) (c .bytes)
       (inserted d prompt broad wide high p q (c .char) s w (fits p lp) (fits q lq)
-        (old-front prompt p q bs (c .char) g (c .chars) (i .end) (i .clear) (i .bare) line pos)
-        (new-text prompt p q bs (c .char) g (c .chars) (i .end) (i .clear) (i .bare) line pos)
-        (new-front prompt p q bs (c .char) g (c .chars) (i .end) (i .clear) (i .bare) line pos)
-        (ap (λ (x : Page). x .base) e) (ap (λ (x : Page). x .upper) e)
-        (ap (λ (x : Page). x .window) e ∙ ap (λ (x : Page). max (p .window) (suc (x .base + endRow d prompt x) - d .rows)) (sym e))
-        (c .good .0) (plain-char (c .char) cw (isControl (c .char)) refl) cw le)
+      (old-front prompt p q bs (c .char) g (c .chars) (i .end) (i .clear) (i .bare) line pos)
+      (new-text prompt p q bs (c .char) g (c .chars) (i .end) (i .clear) (i .bare) line pos)
+      (new-front prompt p q bs (c .char) g (c .chars) (i .end) (i .clear) (i .bare) line pos)
+      (ap (λ (x : Page). x .base) e) (ap (λ (x : Page). x .upper) e)
+      (ap (λ (x : Page). x .window) e ∙ ap (λ (x : Page). max (p .window) (suc (x .base + endRow d prompt x) - d .rows)) (sym e))
+      (c .good .0) (plain-char (c .char) cw (isControl (c .char)) refl) cw le)
     where
       plain-char : (c : ℕ) → d .width c ≢ 0 → (b : Bool) → isControl c ≡ b → isControl c ≡ false
       plain-char c h true e = absurd (h (ctl c e))
@@ -81,7 +81,7 @@ module _ (d : Geometry) (prompt : List ℕ) (good : AllGood prompt) (broad : 2 �
       let is : q ≡ edited d prompt (p .line) x p = e ∙ ap (λ t. cond t (edited d prompt (p .line) x p) (cond (r .yes || p .lit) (settled d prompt (noted d prompt None (p .hint) (r .yes) (edited d prompt (p .line) x p))) (noted d prompt (p .note) (p .hint) (r .yes) (edited d prompt (p .line) x p)))) eb in
       let h = and-parts (eqb (cursorRow d prompt p) (cursorRow d prompt q)) (eqb (cursorCol d prompt p) (cursorCol d prompt q)) es in
       stayed d prompt broad wide high p q s w (fits p lp) (fits q lq) (record { text = ap (λ (y : Page). blockText prompt y) is; base = ap (λ (y : Page). y .base) is; upper = ap (λ (y : Page). y .upper) is; window = ap (λ (y : Page). y .window) is })
-        (eqb-true (cursorRow d prompt p) (cursorRow d prompt q) (h .0)) (eqb-true (cursorCol d prompt p) (cursorCol d prompt q) (h .1))
+      (eqb-true (cursorRow d prompt p) (cursorRow d prompt q) (h .0)) (eqb-true (cursorCol d prompt p) (cursorCol d prompt q) (h .1))
   shows-go x r p q s e w lp lq st false true eb ec es =
       let is : q ≡ settled d prompt (noted d prompt None (p .hint) (r .yes) (edited d prompt (p .line) x p)) = e ∙ (λ i. cond (eb i) (edited d prompt (p .line) x p) (cond (ec i) (settled d prompt (noted d prompt None (p .hint) (r .yes) (edited d prompt (p .line) x p))) (noted d prompt (p .note) (p .hint) (r .yes) (edited d prompt (p .line) x p)))) in
       anew r p q s w lp lq (ap (λ (y : Page). y .base) is) (ap (λ (y : Page). y .upper) is)
@@ -112,6 +112,7 @@ module _ (d : Geometry) (prompt : List ℕ) (good : AllGood prompt) (broad : 2 �
     where
       xs : List ℕ
       xs = noticeText t
+
       body : (u : Screen) → Showing d prompt (u .held) p u → Showing d prompt (u .held) q (feedAll d (erasePage d prompt p ∷ (t ∷ (closeNotice d prompt t ++ (drawPage d prompt r q ∷ [])))) u)
       body u a =
           let f = fits p lp in
@@ -119,7 +120,7 @@ module _ (d : Geometry) (prompt : List ℕ) (good : AllGood prompt) (broad : 2 �
           let sh = f .shown in let tl = f .tall in let uw = a .window in
           let v : Screen = view blankPaper 0 0 None (max (u .top) (suc (p .base + suc (block d (noticeText t) .row)) - d .rows)) (u .held) in
           let at : feedAll d (erasePage d prompt p ∷ (t ∷ closeNotice d prompt t)) u ≡ stand (cut (p .base + suc (block d (noticeText t) .row)) (over (p .base) (p .upper) (block d (noticeText t) .paper))) (p .base + suc (block d (noticeText t) .row)) v =
-                ap (feedAll d (t ∷ closeNotice d prompt t)) (erased-page d prompt broad wide high (u .held) p u a f) ∙ n .2 (stand (cut (p .base) (p .upper)) (p .base) u) ∙ printed-is d prompt broad wide high (p .base) (p .upper) (n .0) (noticeText t) u (omega arith) (omega arith) (n .1) in
+          ap (feedAll d (t ∷ closeNotice d prompt t)) (erased-page d prompt broad wide high (u .held) p u a f) ∙ n .2 (stand (cut (p .base) (p .upper)) (p .base) u) ∙ printed-is d prompt broad wide high (p .base) (p .upper) (n .0) (noticeText t) u (omega arith) (omega arith) (n .1) in
           let eb : q .base ≡ p .base + suc (block d (noticeText t) .row) = ap (λ (x : Page). x .base) e in
           let eu : q .upper ≡ over (p .base) (p .upper) (block d (noticeText t) .paper) = ap (λ (x : Page). x .upper) e in
           let ew : q .window ≡ max (p .window) (suc (q .base + endRow d prompt q) - d .rows) = ap (λ (x : Page). x .window) e ∙ ap (λ (x : Page). max (p .window) (suc (x .base + endRow d prompt x) - d .rows)) (sym e) in
@@ -140,20 +141,25 @@ module _ (d : Geometry) (prompt : List ℕ) (good : AllGood prompt) (broad : 2 �
     where
       eb : q .base ≡ s .top
       eb = ap (λ (x : Page). x .base) e
+
       eu : q .upper ≡ s .pen .paper
       eu = ap (λ (x : Page). x .upper) e
+
       ew : q .window ≡ max (s .top) (suc (q .base + endRow d prompt q) - d .rows)
       ew = ap (λ (x : Page). x .window) e ∙ ap (λ (x : Page). max (s .top) (suc (x .base + endRow d prompt x) - d .rows)) (sym e)
+
       -- from a screen with the same paper and window, and no update held
       on : (u : Screen) → Kept d u → u .pen .paper ≡ s .pen .paper → u .top ≡ s .top → u .held ≡ false → Showing d prompt false q (feedAll d (clearBytes ∷ firstPage d prompt holds r q) u)
       on u ku ep et eh =
           let c = cleared d prompt broad wide high (q .upper) u ku rows (ep ∙ sym eu) in
           let x : Clean d prompt broad wide high (q .base) (q .upper) (s .top) (feed d clearBytes u) = subst (λ t. Clean d prompt broad wide high t (q .upper) (s .top) (feed d clearBytes u)) (et ∙ sym eb) (subst (λ t. Clean d prompt broad wide high (u .top) (q .upper) t (feed d clearBytes u)) et (c .0)) in
           shows-first r q (s .top) (feed d clearBytes u) x (c .1 ∙ eh) lq ew st
+
       let-go : Showing d prompt false q (feedAll d (releaseBytes ∷ (clearBytes ∷ firstPage d prompt holds r q)) s)
       let-go =
           let is = let-go-is d s in
           on (feed d releaseBytes s) (keeps releaseBytes s k) (ap (λ (x : Screen). x .pen .paper) is) (ap (λ (x : Screen). x .top) is) (ap (λ (x : Screen). x .held) is)
+
       go : (t h : Bool) → torn ≡ t → holds ≡ h → Showing d prompt false q (feedAll d (cond (t && h) (releaseBytes ∷ []) [] ++ (clearBytes ∷ firstPage d prompt holds r q)) s)
       go false h et eh = on s k refl refl (free et)
       go true false et eh = on s k refl refl (loose eh)

@@ -4,3 +4,4 @@ pub mod Output
 pub mod Rules
 pub mod Law
 pub mod Meaning
+pub mod Runs

@@ -1,0 +1,5 @@
+//! Tests of the highlighters.
+#[cfg(test)]
+mod brackets;
+#[cfg(test)]
+mod rules;

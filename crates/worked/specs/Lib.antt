@@ -1,0 +1,5 @@
+pub mod Places
+pub mod Brackets
+pub mod Rows
+pub mod Writes
+pub mod Worked
