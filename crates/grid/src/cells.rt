@@ -17,12 +17,21 @@ impl<W> Grid<W> {
         row * self.size.cols() as usize + col
     }
 
-    // The paper's cell in a row and a column.
+    // The cell that stands for a row and a column.
+    fn stored(&self, row: usize, col: usize) -> Cell
+        requires row_within { ⌜ row < now self .depth ⌝ }
+        requires col_within { ⌜ col < now self .size .cols ⌝ }
+        ensures { λ r. ⌜ r ≡ shown (now (self .entry)) .pen .paper row col ⌝ }
+    {
+        self.cells[self.index(row, col)]
+    }
+
+    // The paper's cell in a row and a column, blank outside the cells.
     pub fn cell(&self, row: usize, col: usize) -> Cell
         ensures { λ r. ⌜ r ≡ shown (now (self .entry)) .pen .paper row col ⌝ }
     {
         if row < self.depth && col < self.size.cols() as usize {
-            self.cells[self.index(row, col)]
+            self.stored(row, col)
         } else {
             Cell::Blank
         }

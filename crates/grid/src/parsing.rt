@@ -3,7 +3,7 @@ ghost use Prim.Native.Nat.{_≤_};
 ghost use mathlib.Core.Path.{_≡_};
 ghost use mathlib.Core.Bool.{true};
 ghost use Rattle.screen.specs.Bytes.{begin, continue, dropped, escaped, into, starts, step, stepIn};
-ghost use Rattle.screen.specs.declared.cells.Parser.the-variants.{Escape, Sequence, Character};
+ghost use Rattle.screen.specs.declared.cells.Parser.the-variants.{Ground, Escape, Sequence, Character};
 ghost use Rattle.grid.specs.Bounds.{sure, bounded};
 ghost use Rattle.grid.specs.Meaning.{area, Does, Tries};
 use crate::acting::with_parameter;
@@ -55,8 +55,8 @@ impl<W: WidthTable> Grid<W> {
 
 impl<W: WidthTable> Grid<W> {
     // A byte where nothing is unfinished: false, with nothing changed, where the window would then leave the cells.
-    fn begin(&mut self, byte: u8) -> bool
-        ensures { λ r. ⌜ Tries (begin (area (W·WidthTable .columns) (now (self .entry))) byte) (now (self .entry)) (now (self .exit)) r ⌝ }
+    fn on_ground(&mut self, byte: u8) -> bool
+        ensures { λ r. ⌜ Tries (stepIn (area (W·WidthTable .columns) (now (self .entry))) Ground byte) (now (self .entry)) (now (self .exit)) r ⌝ }
     {
         if byte < 128 {
             return self.put(byte as char);
@@ -89,12 +89,12 @@ impl<W: WidthTable> Grid<W> {
 impl<W: WidthTable> Grid<W> {
     // A byte that does not continue the character begun.
     fn begin_anew(&mut self, byte: u8) -> bool
-        ensures { λ r. ⌜ Tries (λ s. begin (area (W·WidthTable .columns) (now (self .entry))) byte (dropped s)) (now (self .entry)) (now (self .exit)) r ⌝ }
+        ensures { λ r. ⌜ Tries (λ s. stepIn (area (W·WidthTable .columns) (now (self .entry))) Ground byte (dropped s)) (now (self .entry)) (now (self .exit)) r ⌝ }
     {
         let parser = self.parser;
         let join = self.join;
         self.drop_unfinished();
-        if self.begin(byte) {
+        if self.on_ground(byte) {
             return true;
         }
         self.parser = parser;
@@ -156,7 +156,7 @@ impl<W: WidthTable> Grid<W> {
                 self.escape();
                 true
             }
-            (Parser::Ground, _) => self.begin(byte),
+            (Parser::Ground, _) => self.on_ground(byte),
             (Parser::Escape, _) => {
                 self.after_escape(byte);
                 true

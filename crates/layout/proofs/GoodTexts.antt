@@ -12,6 +12,7 @@ use lib.Utf8.{scalar, scalars}
 use Rattle.std.specs.declared.option.Option.{Option}
 use Rattle.std.specs.declared.option.Option.the-variants.{Some}
 use Rattle.std.proofs.shelf.Tests.{and-from, and-parts, not-true, cond-false, cond-both, both-ways, ne-eqb, le-ltb, ltb-false}
+use Rattle.text.proofs.Spelling.{good-scalars}
 use Rattle.text.specs.Texts.{Spells}
 use Rattle.text.specs.Characters.{isControl, Good, AllGood}
 use Rattle.widths.specs.Clusters.{Cluster, isMark, joined, clusters, total}
@@ -112,10 +113,6 @@ module _ (w : ℕ → ℕ) (cols tab : ℕ) (fits : (c : ℕ) → w c ≤ cols) 
 pub walkPlace-append : (w : ℕ → ℕ) (cols : ℕ) (cs ds : List ℕ) (p : Position) → walkPlace cols w (cs ++ ds) p ≡ walkPlace cols w ds (walkPlace cols w cs p)
 walkPlace-append w cols [] ds p = refl
 walkPlace-append w cols (c ∷ cs) ds p = walkPlace-append w cols cs ds (stepPlace cols w c p)
-
-pub good-scalars : (cs : List ℕ) → AllGood cs → scalars cs ≡ true
-good-scalars [] good = refl
-good-scalars (c ∷ cs) good = and-from (scalar c) (scalars cs) (good .0 .0) (good-scalars cs (good .1))
 
 -- a walk over a good text goes from place to place
 pub advances-good : (w : ℕ → ℕ) (cols tab : ℕ) → ((c : ℕ) → w c ≤ cols) → (bs cs : List ℕ) (p : Position) (r : Option Walk)

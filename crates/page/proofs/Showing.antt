@@ -9,7 +9,7 @@ use Rattle.page.specs.Acts.{Replies}
 use Rattle.page.specs.Output.{drawPage, erasePage, styledBlock}
 use Rattle.page.specs.Page.{Page, Shows, blockText, cursorCol, cursorRow, endRow, frontText, noteText, screenCol, screenRow}
 use Rattle.screen.proofs.Erasing.{cut, stand}
-use Rattle.screen.proofs.Heights.{draw-append, good-back, place-draw}
+use Rattle.screen.proofs.Heights.{draw-append, place-draw}
 use Rattle.screen.proofs.Refreshing.{drawn-is, erase-page, view}
 use Rattle.screen.specs.Bytes.{feed}
 use Rattle.screen.specs.Output.{drawBytes}
@@ -18,6 +18,7 @@ use Rattle.screen.specs.Screen.{Geometry, Screen, blankPen, block, over, placeR
 use Rattle.screen.specs.declared.cells.Parser.the-variants.{Ground}
 use Rattle.std.specs.declared.option.Option.the-variants.{None}
 use Rattle.std.specs.shelf.Text.{decodes}
+use Rattle.text.proofs.Spelling.{all-good-parts}
 use Rattle.text.specs.Characters.{AllGood}
 use Rattle.text.specs.Texts.{Styled}
 
@@ -66,7 +67,7 @@ module _ (d : Geometry) (prompt : List ℕ) where
   module _ (broad : 2 ≤ d .cols) (wide : d .cols ≤ 9999) (high : d .rows ≤ 9999) where
     -- the edit position is not below the end
     pub cursor-end : (p : Page) → Fit p → cursorRow d prompt p ≤ endRow d prompt p
-    cursor-end p f = rw (f .parts, draw-append d (frontText prompt p) (backText p) blankPen) (place-draw d (backText p) (block d (frontText prompt p)) (good-back (frontText prompt p) (backText p) (subst AllGood (f .parts) (f .good))) (omega arith))
+    cursor-end p f = rw (f .parts, draw-append d (frontText prompt p) (backText p) blankPen) (place-draw d (backText p) (block d (frontText prompt p)) (all-good-parts (frontText prompt p) (backText p) (subst AllGood (f .parts) (f .good)) .1) (omega arith))
 
     pub live-row : (p : Page) → p .ended ≡ false → screenRow d prompt p ≡ p .base + cursorRow d prompt p
     live-row p e = ap (λ b. p .base + cond b (suc (endRow d prompt p)) (cursorRow d prompt p)) e

@@ -2,8 +2,7 @@
 use Prim.Native.Nat.{_*_, _+_, _≤_, suc, zero, ℕ}
 use lib.ListN.{drop, length, length-append, take}
 use lib.Seq.{take-append-seam}
-use lib.Utf8.{encode, encodes, scalar, scalars}
-use mathlib.Core.Bool.{true}
+use lib.Utf8.{encode, encodes}
 use mathlib.Core.List.{List, [], _++_, _∷_, append-assoc, append-nil}
 use mathlib.Core.Path.{_∙_, _≡_, ap, refl, subst, sym}
 use native.Mathlib.Nat.{add-comm, suc-mul, zero-mul}
@@ -11,11 +10,10 @@ use native.Mathlib.Omega.{arith}
 use Rattle.page.specs.Acts.{times}
 use Rattle.page.specs.Rules.{AtBoundary, OneCharacter}
 use Rattle.std.proofs.shelf.Lists.{length-take-le, take-append-drop}
-use Rattle.std.proofs.shelf.Tests.{and-from}
 use Rattle.std.proofs.shelf.Text.{boundary-from-take, decodes-append, decodes-encodes}
 use Rattle.std.specs.Text.{Utf8}
 use Rattle.std.specs.shelf.Text.{decodes}
-use Rattle.text.proofs.Spelling.{good-text-append, good-text-cut, good-text-utf8}
+use Rattle.text.proofs.Spelling.{good-scalars, good-text-append, good-text-cut, good-text-utf8}
 use Rattle.text.proofs.Styling.{spells-styled}
 use Rattle.text.specs.Characters.{AllGood}
 use Rattle.text.specs.Texts.{GoodText, Spells, Styled}
@@ -25,10 +23,6 @@ pub spells-decodes : (bs : List ℕ) → GoodText bs → Spells bs (decodes bs)
 spells-decodes bs (cs, (g, e)) =
     let is : decodes bs ≡ cs = ap decodes (sym e) ∙ decodes-encodes cs (good-scalars cs g) in
     (subst AllGood (sym is) g, ap encodes is ∙ e)
-  where
-    good-scalars : (cs : List ℕ) → AllGood cs → scalars cs ≡ true
-    good-scalars [] g = refl
-    good-scalars (c ∷ cs) g = and-from (scalar c) (scalars cs) (g .0 .0) (good-scalars cs (g .1))
 
 pub good-decodes : (bs : List ℕ) → GoodText bs → AllGood (decodes bs)
 good-decodes bs g = spells-decodes bs g .0

@@ -215,6 +215,7 @@ calm-past (p ∷ ps) x ys e n m b =
       where
         not-esc : (p : ℕ) → isPlain p ≡ true → p ≢ 27
         not-esc p e = grind (arith, tells)
+
         not-mark : (p : ℕ) → isPlain p ≡ true → p ≢ 63
         not-mark p e = grind (arith, tells)
 

@@ -28,5 +28,9 @@ cleared-is d s h k = screen-path (pen-path (wiped-cut (s .top) (d .rows) (min 0 
 
 pub clears-proof : Clears
 clears-proof d s h k = rw (cleared-is d s h k) (record {
-    fresh = record { sound = record { idle = refl; above = omega arith; inside = omega arith; fits = omega arith }; start = refl; apart = refl; blanks = cut-below (s .top) (s .pen .paper) };
-    line = refl; upper = λ i j l. ap (λ (f : Row). f j) (over-above (s .top) (s .pen .paper) blankPaper i l); window = refl; held = refl })
+  fresh = record { sound = record { idle = refl; above = omega arith; inside = omega arith; fits = omega arith }; start = refl; apart = refl; blanks = cut-below (s .top) (s .pen .paper) };
+  line = refl;
+  upper = λ i j l. ap (λ (f : Row). f j) (over-above (s .top) (s .pen .paper) blankPaper i l);
+  window = refl;
+  held = refl;
+})

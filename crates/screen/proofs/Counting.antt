@@ -13,13 +13,13 @@ use Rattle.layout.specs.Measuring.{atEnd, behind, nextRow}
 use Rattle.layout.specs.declared.layout.Position.{Position}
 use Rattle.screen.proofs.Drawing.{draw-is}
 use Rattle.screen.proofs.Feeding.{feeds-proof}
-use Rattle.screen.proofs.Heights.{styled-good}
 use Rattle.screen.specs.Places.{Places, placeOf, spotOf, topLeft}
 use Rattle.screen.specs.Screen.{Geometry, Pen, Screen, blankPen, blankScreen, block, combine, drawPen, full, newline, placeCol, placeRow, putPen, room, takes}
 use Rattle.std.proofs.shelf.Tests.{cond-both, eqb-false, eqb-true, ne-eqb}
 use Rattle.std.proofs.shelf.Ways.{tells}
 use Rattle.std.specs.declared.option.Option.{Option}
 use Rattle.std.specs.declared.option.Option.the-variants.{None, Some}
+use Rattle.text.proofs.Styling.{styled-good}
 use Rattle.text.specs.Characters.{AllGood, Good, isControl}
 
 combine-spot : (o : Option ℕ) (c : ℕ) (p : Pen) → spotOf (combine o c p) ≡ spotOf p
@@ -31,6 +31,7 @@ room-spot true n c p = λ i. record { col = zero-plus i; row = one-more i }
   where
     zero-plus : n ≡ 0 + n
     zero-plus = omega arith
+
     one-more : p .row + 1 ≡ suc (p .row)
     one-more = omega arith
 room-spot false n c p = refl
@@ -47,8 +48,8 @@ put-spot d c p (g, inl e) h = rw e (next-spot p)
 put-spot d c p (g, inr e) h =
     rw (e, ne-eqb c 10 (not-line c e))
     (cond-both (eqb (d .width c) 0) _ _ (λ q. behind (d .cols) (d .width c) (spotOf p) ≡ spotOf q)
-      (λ t. let z = eqb-true (d .width c) 0 t in ap (λ n. behind (d .cols) n (spotOf p)) z ∙ behind-none (d .cols) (spotOf p) h ∙ sym (combine-spot (p .join) c p))
-      (λ t. room-spot (ltb (d .cols) (p .col + d .width c)) (d .width c) c p))
+    (λ t. let z = eqb-true (d .width c) 0 t in ap (λ n. behind (d .cols) n (spotOf p)) z ∙ behind-none (d .cols) (spotOf p) h ∙ sym (combine-spot (p .join) c p))
+    (λ t. room-spot (ltb (d .cols) (p .col + d .width c)) (d .width c) c p))
   where
     not-line : (c : ℕ) → isControl c ≡ false → c ≢ 10
     not-line c e = grind (arith, tells)
@@ -72,8 +73,10 @@ end-place d p h = go (eqb (p .col) (d .cols)) refl
     full-is : (b : Bool) → eqb (p .col) (d .cols) ≡ b → leb (d .cols) (p .col) ≡ b
     full-is true e = let z = eqb-true (p .col) (d .cols) e in grind (arith, tells)
     full-is false e = let z = eqb-false (p .col) (d .cols) e in grind (arith, tells)
+
     one-more : p .row + 1 ≡ suc (p .row)
     one-more = omega arith
+
     go : (b : Bool) → eqb (p .col) (d .cols) ≡ b → cond (eqb (p .col) (d .cols)) (nextRow (spotOf p)) (spotOf p) ≡ record { col = cond (leb (d .cols) (p .col)) 0 (p .col); row = cond (leb (d .cols) (p .col)) (suc (p .row)) (p .row) }
     go true e = rw (e, full-is true e) (λ i. record { col = 0; row = one-more i })
     go false e = rw (e, full-is false e)
@@ -84,7 +87,7 @@ block-place d w cs g = ap (atEnd (d .cols)) (draw-spot d w cs blankPen g (omega 
 
 pub places-proof : Places
 places-proof d broad tall w tab bs cs st =
-    let g = styled-good bs cs st in
+    let g = styled-good st in
     let v : (c : ℕ) → d .width c ≤ d .cols = λ c. le-trans (w c) broad in
     measured-good (d .width) (d .cols) tab v cs topLeft g
     ∙ block-place d v cs g

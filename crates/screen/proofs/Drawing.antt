@@ -70,6 +70,12 @@ draw-fresh d cs s f = draw-is d cs s (f .sound .idle) (f .sound .inside) ∙ ap 
 
 pub draws-proof : Draws
 draws-proof d cs s f = rw (draw-fresh d cs s f) (record {
-    upper = λ i j h. ap (λ (w : Row). w j) (over-above (s .pen .row) (s .pen .paper) (block d cs .paper) i h);
-    lower = λ i j. ap (λ (w : Row). w j) (over-below (s .pen .row) (s .pen .paper) (block d cs .paper) i);
-    line = refl; place = refl; joins = refl; window = refl; held = refl; idle = refl })
+  upper = λ i j h. ap (λ (w : Row). w j) (over-above (s .pen .row) (s .pen .paper) (block d cs .paper) i h);
+  lower = λ i j. ap (λ (w : Row). w j) (over-below (s .pen .row) (s .pen .paper) (block d cs .paper) i);
+  line = refl;
+  place = refl;
+  joins = refl;
+  window = refl;
+  held = refl;
+  idle = refl;
+})

@@ -84,10 +84,12 @@ reads-decimal = decimal-by-steps Reads one more
   where
     one : (n : ℕ) → n < 10 → Reads n ((48 + n) ∷ [])
     one n h = (and-from _ _ (digit-plain n h) refl, λ k. first-digit n h)
+
     more : (n : ℕ) (ds : List ℕ) → 10 ≤ n → Reads (n / 10) ds → Reads n (ds ++ ((48 + n % 10) ∷ []))
-    more n ds h r =
-        ( plain-push ds (48 + n % 10) (r .0) (digit-plain (n % 10) (omega arith))
-        , λ k. params-push Bare ds (48 + n % 10) ∙ ap (λ p. parameter p (48 + n % 10)) (r .1 (omega arith)) ∙ next-digit (n / 10) (n % 10) (omega arith) (omega arith) ∙ ap Number (omega arith) )
+    more n ds h r = (
+      plain-push ds (48 + n % 10) (r .0) (digit-plain (n % 10) (omega arith)),
+      λ k. params-push Bare ds (48 + n % 10) ∙ ap (λ p. parameter p (48 + n % 10)) (r .1 (omega arith)) ∙ next-digit (n / 10) (n % 10) (omega arith) (omega arith) ∙ ap Number (omega arith),
+    )
 
 pub plain-decimal : (n : ℕ) → n < 2 ^ 64 → plain (decimal n) ≡ true
 plain-decimal n h = reads-decimal n h .0
@@ -134,5 +136,9 @@ cut-below b p i j h = grind (arith, tells)
 
 pub erases-proof : Erases
 erases-proof d s b k n g t e l m w = rw (erased-is d s b k n (g .idle) t e l m w) (record {
-    fresh = record { sound = record { idle = refl; above = t; inside = omega arith; fits = omega arith }; start = refl; apart = refl; blanks = cut-below b (s .pen .paper) };
-    line = refl; upper = λ i j h. ap (λ (f : Row). f j) (over-above b (s .pen .paper) blankPaper i h); window = refl; held = refl })
+  fresh = record { sound = record { idle = refl; above = t; inside = omega arith; fits = omega arith }; start = refl; apart = refl; blanks = cut-below b (s .pen .paper) };
+  line = refl;
+  upper = λ i j h. ap (λ (f : Row). f j) (over-above b (s .pen .paper) blankPaper i h);
+  window = refl;
+  held = refl;
+})

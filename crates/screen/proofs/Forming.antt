@@ -81,10 +81,11 @@ module _ (d : Geometry) where
 
   pub formed-split : (a : ℕ) (f : Row) → Formed d f → Formed d (split a f)
   formed-split a f w = record {
-      first = split-keeps (λ x. isHalf x ≡ false) a f 0 refl (w .first);
-      halves = halves-of a (isHalf (f a)) refl;
-      cells = λ j. split-keeps (λ x. cellFits d x ≡ true) a f j refl (w .cells j);
-      past = λ j h. split-keeps (λ x. x ≡ Blank) a f j refl (w .past j h) }
+    first = split-keeps (λ x. isHalf x ≡ false) a f 0 refl (w .first);
+    halves = halves-of a (isHalf (f a)) refl;
+    cells = λ j. split-keeps (λ x. cellFits d x ≡ true) a f j refl (w .cells j);
+    past = λ j h. split-keeps (λ x. x ≡ Blank) a f j refl (w .past j h);
+  }
     where
       halves-of : (a : ℕ) (b : Bool) → isHalf (f a) ≡ b → (j : ℕ) → isHalf (split a f (suc j)) ≡ isWide d (split a f j)
       halves-of a false e j = ap isHalf (split-none a f (suc j) e) ∙ w .halves j ∙ sym (ap (isWide d) (split-none a f j e))
@@ -105,15 +106,18 @@ module _ (d : Geometry) where
 
   pub formed-wipe : (a : ℕ) (f : Row) → Formed d f → Formed d (wipeFrom a f)
   formed-wipe a f w = record {
-      first = wipe-keeps (λ x. isHalf x ≡ false) a f 0 refl (g .first);
-      halves = λ j. go j (cases-lt (suc j) a) (cases-lt j a);
-      cells = λ j. wipe-keeps (λ x. cellFits d x ≡ true) a f j refl (g .cells j);
-      past = λ j h. wipe-keeps (λ x. x ≡ Blank) a f j refl (g .past j h) }
+    first = wipe-keeps (λ x. isHalf x ≡ false) a f 0 refl (g .first);
+    halves = λ j. go j (cases-lt (suc j) a) (cases-lt j a);
+    cells = λ j. wipe-keeps (λ x. cellFits d x ≡ true) a f j refl (g .cells j);
+    past = λ j h. wipe-keeps (λ x. x ≡ Blank) a f j refl (g .past j h);
+  }
     where
       g : Formed d (split a f)
       g = formed-split a f w
+
       edge : (i : ℕ) → i ≡ a → isHalf (split a f i) ≡ false
       edge i e = rw e (split-edge a f)
+
       go : (j : ℕ) → (suc j < a) ⊎ (a ≤ suc j) → (j < a) ⊎ (a ≤ j) → isHalf (wipeFrom a f (suc j)) ≡ isWide d (wipeFrom a f j)
       go j (inl p) y = ap isHalf (wipe-out a f (suc j) p) ∙ g .halves j ∙ sym (ap (isWide d) (wipe-out a f j (omega arith)))
       go j (inr p) (inl y) = ap isHalf (wipe-in a f (suc j) p) ∙ sym (ap (isWide d) (wipe-out a f j y) ∙ sym (g .halves j) ∙ edge (suc j) (omega arith))
@@ -147,10 +151,11 @@ module _ (d : Geometry) where
 
   pub formed-mark : (m a : ℕ) (f : Row) → d .width m ≡ 0 → Formed d f → Formed d (markAt m a f)
   formed-mark m a f e w = record {
-      first = mark-half m a f 0 ∙ w .first;
-      halves = λ j. mark-half m a f (suc j) ∙ w .halves j ∙ sym (mark-wide m a f j);
-      cells = λ j. mark-keeps (λ x. cellFits d x ≡ true) m a f j (marked-fits m (f j) e (w .cells j)) (w .cells j);
-      past = λ j h. mark-keeps (λ x. x ≡ Blank) m a f j (ap (marked m) (w .past j h)) (w .past j h) }
+    first = mark-half m a f 0 ∙ w .first;
+    halves = λ j. mark-half m a f (suc j) ∙ w .halves j ∙ sym (mark-wide m a f j);
+    cells = λ j. mark-keeps (λ x. cellFits d x ≡ true) m a f j (marked-fits m (f j) e (w .cells j)) (w .cells j);
+    past = λ j h. mark-keeps (λ x. x ≡ Blank) m a f j (ap (marked m) (w .past j h)) (w .past j h);
+  }
 
   -- a character's cells
   placed-glyph : (k c a : ℕ) (f : Row) (j : ℕ) → j ≡ a → placed k c a f j ≡ Glyph c None
@@ -167,30 +172,38 @@ module _ (d : Geometry) where
 
   pub formed-placed : (c a : ℕ) (f : Row) → 0 < d .width c → d .width c ≤ 2 → a + d .width c ≤ d .cols → Formed d f → Formed d (placed (d .width c) c a f)
   formed-placed c a f pos two fits w = record {
-      first = first-of (cases-eq a 0);
-      halves = λ j. halves-of j (cases-order (suc j) a) (cases-lt j (a + k)) (cases-lt (suc j) (a + k));
-      cells = λ j. cells-of j (cases-order j a) (cases-lt j (a + k));
-      past = λ j h. other j (inr (omega arith)) ∙ g .past j h }
+    first = first-of (cases-eq a 0);
+    halves = λ j. halves-of j (cases-order (suc j) a) (cases-lt j (a + k)) (cases-lt (suc j) (a + k));
+    cells = λ j. cells-of j (cases-order j a) (cases-lt j (a + k));
+    past = λ j h. other j (inr (omega arith)) ∙ g .past j h;
+  }
     where
       k : ℕ
       k = d .width c
+
       g : Formed d (split (a + d .width c) (split a f))
       g = formed-split (a + d .width c) (split a f) (formed-split a f w)
+
       other : (j : ℕ) → (j < a) ⊎ (a + d .width c ≤ j) → placed (d .width c) c a f j ≡ split (a + d .width c) (split a f) j
       other j h = placed-other (d .width c) c a f j h pos
+
       first-of : (a ≡ 0) ⊎ (a ≢ 0) → isHalf (placed (d .width c) c a f 0) ≡ false
       first-of (inl e) = ap isHalf (placed-glyph (d .width c) c a f 0 (sym e))
       first-of (inr e) = ap isHalf (other 0 (inl (omega arith))) ∙ g .first
+
       -- no right half stands at the new character's two edges
       left : (j : ℕ) → j ≡ a → isHalf (split (a + d .width c) (split a f) j) ≡ false
       left j e = split-keeps (λ x. isHalf x ≡ false) (a + d .width c) (split a f) j refl (rw e (split-edge a f))
+
       right : (j : ℕ) → j ≡ a + d .width c → isHalf (split (a + d .width c) (split a f) j) ≡ false
       right j e = rw e (split-edge (a + d .width c) (split a f))
+
       cells-of : (j : ℕ) → (j ≡ a) ⊎ ((j < a) ⊎ (a < j)) → (j < a + d .width c) ⊎ (a + d .width c ≤ j) → cellFits d (placed (d .width c) c a f j) ≡ true
       cells-of j (inl e) y = ap (cellFits d) (placed-glyph (d .width c) c a f j e) ∙ and-from _ _ (lt-ltb 0 (d .width c) pos) refl
       cells-of j (inr (inl h)) y = ap (cellFits d) (other j (inl h)) ∙ g .cells j
       cells-of j (inr (inr h)) (inl y) = ap (cellFits d) (placed-half (d .width c) c a f j h y)
       cells-of j (inr (inr h)) (inr y) = ap (cellFits d) (other j (inr y)) ∙ g .cells j
+
       halves-of : (j : ℕ) → (suc j ≡ a) ⊎ ((suc j < a) ⊎ (a < suc j)) → (j < a + d .width c) ⊎ (a + d .width c ≤ j) → (suc j < a + d .width c) ⊎ (a + d .width c ≤ suc j) → isHalf (placed (d .width c) c a f (suc j)) ≡ isWide d (placed (d .width c) c a f j)
       -- before the character
       halves-of j (inl e) y z = ap isHalf (placed-glyph (d .width c) c a f (suc j) e) ∙ sym (ap (isWide d) (other j (inl (omega arith))) ∙ sym (g .halves j) ∙ left (suc j) e)

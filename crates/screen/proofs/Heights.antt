@@ -13,17 +13,8 @@ use Rattle.std.proofs.shelf.Ways.{tells}
 use Rattle.std.specs.declared.option.Option.{Option}
 use Rattle.std.specs.declared.option.Option.the-variants.{None, Some}
 use Rattle.text.specs.Characters.{AllGood, Good, isControl}
-use Rattle.text.specs.Texts.{Styled, dyes, ends, shows}
 
-pub styled-good : (bs cs : List ℕ) → Styled bs cs → AllGood cs
-styled-good bs cs ends = tt
-styled-good bs cs (shows c {bs = x} {cs = y} h t) = (h, styled-good x y t)
-styled-good bs cs (dyes ps {bs = x} h t) = styled-good x cs t
-
-pub good-back : (es fs : List ℕ) → AllGood (es ++ fs) → AllGood fs
-good-back [] fs a = a
-good-back (e ∷ es) fs a = good-back es fs (a .1)
-
+-- the characters behind others
 pub draw-append : (d : Geometry) (es fs : List ℕ) (p : Pen) → drawPen d (es ++ fs) p ≡ drawPen d fs (drawPen d es p)
 draw-append d [] fs p = refl
 draw-append d (e ∷ es) fs p = draw-append d es fs (putPen d e p)

@@ -67,7 +67,7 @@ inserts-proof d r up cs c s pg sc e w l =
     let from : s .pen ≡ lift r up (settle d (s .pen .join) p) = pen-path (pg .paper) (pg .line) (pg .place) refl in
     let drawn : putPen d c (s .pen) ≡ lift r up n = ap (putPen d c) from ∙ lift-put r up d c (settle d (s .pen .join) p) ∙ ap (lift r up) (at-place d c (s .pen .join) p e w l ∙ sym new) in
     let all : feed d (encode c) s ≡ record { pen = lift r up n; top = s .top; held = s .held; parser = Ground } =
-          utf-proof d c s sc (not-escape c e) (pg .idle) ∙ screen-path drawn (omega (arith, ap (λ (x : Pen). x .row) drawn)) refl refl in
+    utf-proof d c s sc (not-escape c e) (pg .idle) ∙ screen-path drawn (omega (arith, ap (λ (x : Pen). x .row) drawn)) refl refl in
     rw all (record { page = record { idle = refl; paper = refl; line = omega arith; place = omega arith; shown = pg .shown; tall = omega arith }; row = omega arith; col = omega arith; window = refl; held = refl })
   where
     not-escape : (c : ℕ) → isControl c ≡ false → c ≢ 27

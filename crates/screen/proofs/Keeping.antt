@@ -186,6 +186,7 @@ module _ (d : Geometry) (tall : 0 < d .rows) (broad : 2 ≤ d .cols) (w : (c : �
 
 pub keeps-proof : AlwaysKept
 keeps-proof d tall broad w = record {
-    start = (kept-blank d tall broad w, λ i. formed-blank d);
-    kept = kept-feed d tall broad w;
-    formed = formed-feed d tall broad w }
+  start = (kept-blank d tall broad w, λ i. formed-blank d);
+  kept = kept-feed d tall broad w;
+  formed = formed-feed d tall broad w;
+}

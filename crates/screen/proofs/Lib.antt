@@ -1,4 +1,5 @@
 pub mod Sequences
+pub mod Reading
 pub mod Decode
 pub mod Translate
 pub mod Drawing

@@ -7,8 +7,8 @@ use native.Mathlib.Omega.{arith}
 use Rattle.screen.proofs.Drawing.{draw-fresh, screen-path}
 use Rattle.screen.proofs.Erasing.{cut, cut-below, erased-is, stand}
 use Rattle.screen.proofs.Feeding.{feeds-proof}
+use Rattle.screen.proofs.Heights.{block-blank, draw-append, place-col, place-draw, place-least}
 use Rattle.screen.proofs.Moving.{moves-proof}
-use Rattle.screen.proofs.Heights.{block-blank, draw-append, good-back, place-col, place-draw, place-least, styled-good}
 use Rattle.screen.proofs.Sequences.{feed-append}
 use Rattle.screen.proofs.Translate.{pen-path}
 use Rattle.screen.specs.Bytes.{begin, feed, stepIn}
@@ -19,6 +19,8 @@ use Rattle.screen.specs.declared.cells.Parser.the-variants.{Ground}
 use Rattle.std.proofs.shelf.Ways.{tells}
 use Rattle.std.specs.declared.option.Option.{Option}
 use Rattle.std.specs.declared.option.Option.the-variants.{None}
+use Rattle.text.proofs.Spelling.{all-good-parts}
+use Rattle.text.proofs.Styling.{styled-good}
 use Rattle.text.specs.Texts.{Styled}
 
 pub over-over : (r : ℕ) (up p q : Paper) → over r (over r up p) q ≡ over r up q
@@ -38,7 +40,7 @@ erase-page d r up cs i j s high pg h =
     let n = placeRow d (block d cs) in
     let q = block d cs .paper in
     erased-is d s r (n - i) n (pg .idle) (pg .shown) (omega arith) (pg .tall) (omega arith)
-      (λ a b l. ap (λ (x : Paper). x a b) (pg .paper) ∙ ap (λ (x : Row). x b) (over-under r up q a (omega arith)) ∙ block-blank d cs (a - r) b (omega (arith, place-least d (block d cs))))
+    (λ a b l. ap (λ (x : Paper). x a b) (pg .paper) ∙ ap (λ (x : Row). x b) (over-under r up q a (omega arith)) ∙ block-blank d cs (a - r) b (omega (arith, place-least d (block d cs))))
     ∙ ap (λ x. stand x r s) (ap (cut r) (pg .paper) ∙ over-over r up q blankPaper)
 
 pub draw-page : (d : Geometry) (r : ℕ) (up : Paper) (bs ds : List ℕ) (s : Screen) → s .top ≤ r → r < s .top + d .rows → Styled bs ds → feed d bs (stand (cut r up) r s) ≡ follow d (lift r up (block d ds)) s
@@ -58,9 +60,11 @@ close-page d r up p s = go (full d p)
 
 up-page : (d : Geometry) (q : Paper) (k i j : ℕ) (o : Option ℕ) (t : ℕ) (h : Bool) → t + k ≤ i → i < t + d .rows → j < d .cols → d .rows ≤ 9999 → (w : Option ℕ) × (feed d (upBy k) (view q i j o t h) ≡ view q (i - k) j w t h)
 up-page d q zero i j o t h a b c e = (o, ap (λ x. view q x j o t h) (omega arith))
-up-page d q (suc k) i j o t h a b c e =
-    (None, moves-proof d (suc k) (view q i j o t h) (record { idle = refl; above = omega arith; inside = b; fits = omega arith }) (omega arith) (omega arith) .0 a
-    ∙ ap (λ x. view q (i - suc k) x None t h) (omega arith))
+up-page d q (suc k) i j o t h a b c e = (
+  None,
+  moves-proof d (suc k) (view q i j o t h) (record { idle = refl; above = omega arith; inside = b; fits = omega arith }) (omega arith) (omega arith) .0 a
+      ∙ ap (λ x. view q (i - suc k) x None t h) (omega arith),
+)
 
 column-page : (d : Geometry) (q : Paper) (i j k : ℕ) (o : Option ℕ) (t : ℕ) (h : Bool) → t ≤ i → i < t + d .rows → k < d .cols → d .cols ≤ 9999 → feed d (toColumn k) (view q i j o t h) ≡ view q i k None t h
 unfolding stepIn begin putPen
@@ -72,14 +76,14 @@ column-page d q i j (suc k) o t h a b c e =
 
 -- the place of a text's front is not below that of the whole
 pub place-front : (d : Geometry) (bs es fs : List ℕ) → 0 < d .cols → Styled bs (es ++ fs) → placeRow d (block d es) ≤ placeRow d (block d (es ++ fs))
-place-front d bs es fs pos st = rw (draw-append d es fs blankPen) (place-draw d fs (block d es) (good-back es fs (styled-good bs (es ++ fs) st)) pos)
+place-front d bs es fs pos st = rw (draw-append d es fs blankPen) (place-draw d fs (block d es) (all-good-parts es fs (styled-good st) .1) pos)
 
 -- a block drawn from the start of a row below which nothing stands
 pub drawn-is : (d : Geometry) (r : ℕ) (up : Paper) (s : Screen) (bs es fs : List ℕ)
     → 0 < d .cols → d .cols ≤ 9999 → d .rows ≤ 9999
     → s .top ≤ r → r < s .top + d .rows → Styled bs (es ++ fs) → placeRow d (block d (es ++ fs)) < d .rows
     → feed d (drawBytes d bs (es ++ fs) es) (stand (cut r up) r s)
-      ≡ view (over r up (block d (es ++ fs) .paper)) (r + placeRow d (block d es)) (placeCol d (block d es)) None (max (s .top) (suc (r + placeRow d (block d (es ++ fs))) - d .rows)) (s .held)
+    ≡ view (over r up (block d (es ++ fs) .paper)) (r + placeRow d (block d es)) (placeCol d (block d es)) None (max (s .top) (suc (r + placeRow d (block d (es ++ fs))) - d .rows)) (s .held)
 drawn-is d r up s bs es fs pos wide high above inside st fits =
     let le = place-front d bs es fs pos st in
     feed-append d bs tail (stand (cut r up) r s)
@@ -93,22 +97,31 @@ drawn-is d r up s bs es fs pos wide high above inside st fits =
   where
     ds : List ℕ
     ds = es ++ fs
+
     p : Pen
     p = block d ds
+
     a : ℕ
     a = placeRow d p
+
     b : ℕ
     b = placeRow d (block d es)
+
     c : ℕ
     c = placeCol d (block d es)
+
     q : Paper
     q = over r up (p .paper)
+
     top : ℕ
     top = max (s .top) (suc (r + a) - d .rows)
+
     tail : List ℕ
     tail = closing (full d p) ++ (upBy (a - b) ++ toColumn c)
+
     close : (o : Option ℕ) × (feed d (closing (full d p)) (follow d (lift r up p) s) ≡ view q (r + a) (placeCol d p) o top (s .held))
     close = close-page d r up p s
+
     upped : top + (a - b) ≤ r + a → (w : Option ℕ) × (feed d (upBy (a - b)) (view q (r + a) (placeCol d p) (close .0) top (s .held)) ≡ view q (r + a - (a - b)) (placeCol d p) w top (s .held))
     upped h = up-page d q (a - b) (r + a) (placeCol d p) (close .0) top (s .held) h (omega arith) (place-col d p pos) high
 
@@ -117,6 +130,6 @@ refreshes-proof d r up cs i j s bs es fs pos wide high pg h st fits =
     let le = place-front d bs es fs pos st in
     let n = placeRow d (block d cs) in
     rw (feed-append d (eraseBytes (n - i) n) (drawBytes d bs (es ++ fs) es) s
-      ∙ ap (feed d (drawBytes d bs (es ++ fs) es)) (erase-page d r up cs i j s high pg h)
-      ∙ drawn-is d r up s bs es fs pos wide high (pg .shown) (omega arith) st fits)
+    ∙ ap (feed d (drawBytes d bs (es ++ fs) es)) (erase-page d r up cs i j s high pg h)
+    ∙ drawn-is d r up s bs es fs pos wide high (pg .shown) (omega arith) st fits)
     (record { page = record { idle = refl; paper = refl; line = refl; place = refl; shown = omega arith; tall = omega arith }; window = refl; held = refl })

@@ -12,6 +12,7 @@ use Rattle.screen.specs.declared.cells.Parameters.the-variants.{Bare, Number, 
 use Rattle.screen.specs.declared.cells.Partial.{Partial}
 use Rattle.screen.specs.Screen.{Geometry, Pen, Screen, Paper, quiet, put, onRow, wipeFrom, rowsFrom}
 
+-- from lo to hi
 abbrev pub within : ℕ → ℕ → ℕ → Bool
 within lo hi b = leb lo b && leb b hi
 
@@ -64,6 +65,7 @@ continue d p b s =
 abbrev pub modeByte : ℕ → ℕ
 modeByte k = cond (eqb k 0) 63 (cond (eqb k 1) 50 (cond (eqb k 2) 48 (cond (eqb k 3) 50 54)))
 
+-- an ASCII digit
 abbrev pub isDigit : ℕ → Bool
 isDigit b = within 48 57 b
 
@@ -83,6 +85,7 @@ at i j s = withPen (record { paper = s .pen .paper; row = i; col = j; join = Non
 abbrev pub column : Geometry → Screen → ℕ
 column d s = min (s .pen .col) (d .cols - 1)
 
+-- the window's last row
 abbrev pub bottom : Geometry → Screen → ℕ
 bottom d s = s .top + d .rows - 1
 
@@ -122,6 +125,7 @@ act d Other b s = dropped s
 unfoldable pub finish : Geometry → Parameters → ℕ → Screen → Screen
 finish d p b s = cond (eqb b 109) (into Ground s) (act d p b s)
 
+-- the byte b, no ESC, by what is unfinished
 unfoldable pub stepIn : Geometry → Parser → ℕ → Screen → Screen
 stepIn d Ground b s = begin d b s
 stepIn d Escape b s = cond (eqb b 91) (into (Sequence Bare) s) (dropped s)

@@ -1,4 +1,4 @@
--- The laws.
+-- What bytes do to a screen, as laws: texts are drawn, blocks erased, the cursor moved, and what no byte takes away. Assumes nothing.
 use Prim.Native.Nat.{_+_, _-_, _<_, _≤_, max, suc, ℕ}
 use lib.Dec.{eqb, ltb}
 use lib.Utf8.{encode, scalar}
@@ -49,6 +49,7 @@ pub record Shows (d : Geometry) (cs : List ℕ) (s t : Screen) : Type 0 where
   pub held : t .held ≡ s .held
   pub idle : t .parser ≡ Ground
 
+-- where nothing stands from the cursor on, a text shows its block
 abbrev pub Draws : Type 0
 Draws = (d : Geometry) (cs : List ℕ) (s : Screen) → Fresh d s → Shows d cs s (draw d cs s)
 
@@ -60,10 +61,11 @@ pub record Erased (d : Geometry) (b : ℕ) (s t : Screen) : Type 0 where
   pub window : t .top ≡ s .top
   pub held : t .held ≡ s .held
 
--- the cursor stands in a block whose first row is b and whose last is b + n, k rows above that
+-- from k rows above the last row of a block that begins in row b and ends n rows below, its bytes erase it
 abbrev pub Erases : Type 0
 Erases = (d : Geometry) (s : Screen) (b k n : ℕ) → Sound d s → s .top ≤ b → s .pen .row + k ≡ b + n → b + n < s .top + d .rows → k ≤ 9999 → ((i j : ℕ) → b + n < i → s .pen .paper i j ≡ Blank) → Erased d b s (feed d (eraseBytes k n) s)
 
+-- the bytes of a styled text do what the characters do that it shows
 abbrev pub Feeds : Type 0
 Feeds = (d : Geometry) (bs cs : List ℕ) (s : Screen) → Styled bs cs → s .parser ≡ Ground → feed d bs s ≡ draw d cs s
 
@@ -116,6 +118,7 @@ pub record Keeps (d : Geometry) : Type 0 where
   pub kept : (bs : List ℕ) (s : Screen) → Kept d s → Kept d (feed d bs s)
   pub formed : (bs : List ℕ) (s : Screen) → Kept d s → AllFormed d s → AllFormed d (feed d bs s)
 
+-- so it is on every window that has a row and two columns, by every table of widths 0 to 2
 abbrev pub AlwaysKept : Type 0
 AlwaysKept = (d : Geometry) → 0 < d .rows → 2 ≤ d .cols → ((c : ℕ) → d .width c ≤ 2) → Keeps d
 

@@ -44,10 +44,11 @@ toColumn (suc j) = 13 ∷ moveBy 67 (suc j)
 abbrev pub clearBytes : List ℕ
 clearBytes = 27 ∷ 91 ∷ 72 ∷ 27 ∷ 91 ∷ 74 ∷ []
 
--- begins and ends a held update
+-- begins a held update
 abbrev pub holdBytes : List ℕ
 holdBytes = 27 ∷ codes "[?2026h"
 
+-- ends it
 abbrev pub releaseBytes : List ℕ
 releaseBytes = 27 ∷ codes "[?2026l"
 

@@ -1,4 +1,4 @@
--- A page on a screen, and the renderer's bytes that put another in its place.
+-- A page on a screen: rows above, then the block of a text; and the bytes that put another page in its place. Assumes nothing.
 use Prim.Native.Nat.{_+_, _-_, _<_, _≤_, max, suc, ℕ}
 use lib.Utf8.{encode, scalar}
 use mathlib.Core.Bool.{false, true}
@@ -21,6 +21,7 @@ pub record OnScreen (d : Geometry) (r : ℕ) (up : Paper) (cs : List ℕ) (i j :
   pub shown : s .top ≤ r
   pub tall : r + placeRow d (block d cs) < s .top + d .rows
 
+-- t shows the page with the text ds, the cursor after es; the window has moved just enough since s, and the held mark is as it was
 pub record Refreshed (d : Geometry) (r : ℕ) (up : Paper) (ds es : List ℕ) (s t : Screen) : Type 0 where
   pub page : OnScreen d r up ds (placeRow d (block d es)) (placeCol d (block d es)) t
   pub window : t .top ≡ max (s .top) (suc (r + placeRow d (block d ds)) - d .rows)
@@ -33,7 +34,7 @@ Refreshes = (d : Geometry) (r : ℕ) (up : Paper) (cs : List ℕ) (i j : ℕ) (s
     → OnScreen d r up cs i j s → i ≤ placeRow d (block d cs) → Styled bs (es ++ fs) → placeRow d (block d (es ++ fs)) < d .rows
     → Refreshed d r up (es ++ fs) es s (feed d (refreshBytes d (placeRow d (block d cs)) i bs (es ++ fs) es) s)
 
--- one character at the end of the text, written by itself
+-- t shows the page with the character c behind the text, the cursor behind it in the same row; window and held mark are as in s
 pub record Inserted (d : Geometry) (r : ℕ) (up : Paper) (cs : List ℕ) (c : ℕ) (s t : Screen) : Type 0 where
   pub page : OnScreen d r up (cs ++ (c ∷ [])) (placeRow d (block d (cs ++ (c ∷ [])))) (placeCol d (block d (cs ++ (c ∷ [])))) t
   pub row : placeRow d (block d (cs ++ (c ∷ []))) ≡ placeRow d (block d cs)
@@ -41,9 +42,9 @@ pub record Inserted (d : Geometry) (r : ℕ) (up : Paper) (cs : List ℕ) (c : �
   pub window : t .top ≡ s .top
   pub held : t .held ≡ s .held
 
+-- a character that takes columns and leaves the row unfilled, written by itself at the end of the text
 abbrev pub Inserts : Type 0
 Inserts = (d : Geometry) (r : ℕ) (up : Paper) (cs : List ℕ) (c : ℕ) (s : Screen)
     → OnScreen d r up cs (placeRow d (block d cs)) (placeCol d (block d cs)) s
     → scalar c ≡ true → isControl c ≡ false → d .width c ≢ 0 → placeCol d (block d cs) + d .width c < d .cols
     → Inserted d r up cs c s (feed d (encode c) s)
-

@@ -8,10 +8,11 @@ use Rattle.screen.specs.Bytes.{feed}
 use Rattle.screen.specs.Screen.{Geometry, Pen, blankScreen, placeCol, placeRow}
 use Rattle.text.specs.Texts.{Styled}
 
--- the cursor's place, without and with the rule that a full row counts as column 0 of the next
+-- the cursor's column and row
 abbrev pub spotOf : Pen → Position
 spotOf p = record { col = p .col; row = p .row }
 
+-- the cursor's place, a full row counting as column 0 of the next
 abbrev pub placeOf : Geometry → Pen → Position
 placeOf d p = record { col = placeCol d p; row = placeRow d p }
 

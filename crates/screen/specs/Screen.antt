@@ -20,12 +20,15 @@ Row = ℕ → Cell
 abbrev pub Paper : Type 0
 Paper = ℕ → Row
 
+-- nothing in it
 abbrev pub blankRow : Row
 blankRow = λ j. Blank
 
+-- nothing on it
 abbrev pub blankPaper : Paper
 blankPaper = λ i. blankRow
 
+-- the right half of a wide character
 abbrev pub isHalf : Cell → Bool
 isHalf Blank = false
 isHalf (Glyph c m) = false
@@ -45,6 +48,7 @@ marked m Blank = Blank
 marked m (Glyph c k) = Glyph c (Some m)
 marked m RightHalf = RightHalf
 
+-- the character in column a takes the mark m
 unfoldable pub markAt : ℕ → ℕ → Row → Row
 markAt m a f j = cond (eqb j a) (marked m (f j)) (f j)
 
@@ -74,9 +78,11 @@ pub record Geometry : Type 0 where
   pub cols : ℕ
   pub rows : ℕ
 
+-- LF: column 0 of the next row
 abbrev pub newline : Pen → Pen
 newline p = record { paper = p .paper; row = suc (p .row); col = 0; join = None }
 
+-- CR: column 0
 abbrev pub carriage : Pen → Pen
 carriage p = record { paper = p .paper; row = p .row; col = 0; join = None }
 
@@ -109,6 +115,7 @@ putPen d c p =
     (cond (eqb (d .width c) 0) (combine (p .join) c p)
     (takes (d .width c) c (room (ltb (d .cols) (p .col + d .width c)) p)))
 
+-- characters, one after the other
 abbrev pub drawPen : Geometry → List ℕ → Pen → Pen
 drawPen d [] p = p
 drawPen d (c ∷ cs) p = drawPen d cs (putPen d c p)
@@ -128,10 +135,12 @@ follow d p s = record { pen = p; top = max (s .top) (suc (p .row) - d .rows); he
 abbrev pub put : Geometry → ℕ → Screen → Screen
 put d c s = follow d (putPen d c (s .pen)) s
 
+-- characters, one after the other
 abbrev pub draw : Geometry → List ℕ → Screen → Screen
 draw d [] s = s
 draw d (c ∷ cs) s = draw d cs (put d c s)
 
+-- blank paper, the cursor at the top left
 abbrev pub blankPen : Pen
 blankPen = record { paper = blankPaper; row = 0; col = 0; join = None }
 
@@ -147,10 +156,11 @@ block d cs = drawPen d cs blankPen
 unfoldable pub full : Geometry → Pen → Bool
 full d p = leb (d .cols) (p .col)
 
--- where a pen stands, a full row counting as column 0 of the next
+-- the row of the cursor's place, a full row counting as column 0 of the next
 unfoldable pub placeRow : Geometry → Pen → ℕ
 placeRow d p = cond (full d p) (suc (p .row)) (p .row)
 
+-- the column of the cursor's place
 unfoldable pub placeCol : Geometry → Pen → ℕ
 placeCol d p = cond (full d p) 0 (p .col)
 

@@ -59,14 +59,14 @@ good-text-past c rest (cs, s) =
 pub bad-front : (bs : List ℕ) (d : Decoded) → Front bs d → (Good (d .code) → ⊥) → GoodFront bs None
 bad-front bs d f n c rest g same = n (subst Good (encode-same c (d .code) rest (drop (d .len) bs) (sym same ∙ f .bytes) .0) g)
 
-pub good-text-utf8 : (bs : List ℕ) → GoodText bs → Utf8 bs
-good-text-utf8 bs (cs, s) = (cs, (scalars-good cs (s .0), s .1))
-  where
-    scalars-good : (cs : List ℕ) → AllGood cs → scalars cs ≡ true
-    scalars-good [] g = refl
-    scalars-good (c ∷ cs) g = and-from (scalar c) (scalars cs) (g .0 .0) (scalars-good cs (g .1))
+pub good-scalars : (cs : List ℕ) → AllGood cs → scalars cs ≡ true
+good-scalars [] g = refl
+good-scalars (c ∷ cs) g = and-from (scalar c) (scalars cs) (g .0 .0) (good-scalars cs (g .1))
 
-all-good-parts : (cs ds : List ℕ) → AllGood (cs ++ ds) → AllGood cs × AllGood ds
+pub good-text-utf8 : (bs : List ℕ) → GoodText bs → Utf8 bs
+good-text-utf8 bs (cs, s) = (cs, (good-scalars cs (s .0), s .1))
+
+pub all-good-parts : (cs ds : List ℕ) → AllGood (cs ++ ds) → AllGood cs × AllGood ds
 all-good-parts [] ds g = (tt, g)
 all-good-parts (c ∷ cs) ds g = let k = all-good-parts cs ds (g .1) in ((g .0, k .0), k .1)
 
