@@ -4,7 +4,8 @@ use mathlib.Core.Bool.{Bool, true, false}
 use Prim.Native.Nat.{ℕ, _+_, _≤_, _<_}
 use native.Mathlib.Omega.{arith}
 use Rattle.screen.specs.Screen.{Screen, Row}
-use Rattle.grid.specs.Meaning.{shown, drawn, rowed, Does, Tries}
+use Rattle.grid.specs.Meaning.{shown}
+use Rattle.grid.specs.Steps.{drawn, rowed, Does, Tries}
 use Rattle.grid.proofs.Papers.{onRow-same, onRow-none, onRow-twice}
 use Rattle.grid.specs.declared.grid.Grid.{Grid}
 

@@ -15,7 +15,8 @@ use Rattle.std.proofs.shelf.Ways.{tells}
 use Rattle.screen.specs.Screen.{Row, Paper, blankRow, blankPaper, onRow, rowsFrom}
 use Rattle.screen.specs.declared.cells.Cell.{Cell}
 use Rattle.screen.specs.declared.cells.Cell.the-variants.{Blank}
-use Rattle.grid.specs.Meaning.{paperOf, oneCell}
+use Rattle.grid.specs.Meaning.{paperOf}
+use Rattle.grid.specs.Steps.{oneCell}
 
 -- a place in the cells tells its row and its column
 same-place : (w i j r c : ℕ) → j < w → c < w → i * w + j ≡ r * w + c → (i ≡ r) × (j ≡ c)

@@ -10,7 +10,7 @@ use Rattle.std.specs.declared.option.Option.the-variants.{None}
 use Rattle.screen.specs.Screen.{Row, blankRow, isHalf, split, placed, marked, markAt, wipeFrom}
 use Rattle.screen.specs.declared.cells.Cell.{Cell}
 use Rattle.screen.specs.declared.cells.Cell.the-variants.{Blank, Glyph, RightHalf}
-use Rattle.grid.specs.Meaning.{oneCell, clearFrom}
+use Rattle.grid.specs.Steps.{oneCell, clearFrom}
 
 -- no wide character lies across the edge
 pub split-none : (c : ℕ) (w : Row) → isHalf (w c) ≡ false → split c w ≡ w

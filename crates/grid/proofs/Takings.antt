@@ -9,7 +9,7 @@ use Rattle.std.proofs.shelf.Lists.{take-more, drop-more, drop-all}
 use Rattle.std.proofs.shelf.Tests.{cond-true, cond-false, le-leb, lt-leb}
 use Rattle.screen.specs.Screen.{Screen, Geometry}
 use Rattle.screen.specs.Bytes.{feed, step}
-use Rattle.terminal.proofs.Feeds.{feed-append}
+use Rattle.screen.proofs.Sequences.{feed-append}
 use Rattle.grid.specs.Fitting.{fits, fitting}
 
 -- no more bytes fit than there are

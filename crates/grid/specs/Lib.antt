@@ -1,3 +1,4 @@
 pub mod Bounds
 pub mod Meaning
+pub mod Steps
 pub mod Fitting

@@ -2,7 +2,8 @@
 ghost use Prim.Native.Nat.{_+_, _*_, _<_, min};
 ghost use mathlib.Core.Path.{_≡_};
 ghost use Rattle.screen.specs.Bytes.{act, finish, holding, modeByte, parameter};
-ghost use Rattle.grid.specs.Meaning.{area, Does};
+ghost use Rattle.grid.specs.Meaning.{area};
+ghost use Rattle.grid.specs.Steps.{Does};
 use crate::grid::Grid;
 use screen::cells::Parameters;
 use screen::cells::Parser;

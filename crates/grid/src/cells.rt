@@ -2,7 +2,8 @@
 ghost use Prim.Native.Nat.{_+_, _*_, _<_};
 ghost use mathlib.Core.Path.{_≡_};
 ghost use Rattle.std.specs.Of.Vec.{vec-len};
-ghost use Rattle.grid.specs.Meaning.{shown, Does, rowed, oneCell};
+ghost use Rattle.grid.specs.Meaning.{shown};
+ghost use Rattle.grid.specs.Steps.{Does, rowed, oneCell};
 use crate::grid::Grid;
 use screen::cells::Cell;
 

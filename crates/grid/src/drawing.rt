@@ -2,7 +2,7 @@
 ghost use Prim.Native.Nat.{_+_, _<_, _≤_};
 ghost use mathlib.Core.Path.{_≡_};
 ghost use Rattle.screen.specs.Screen.{isHalf, split, placed, markAt};
-ghost use Rattle.grid.specs.Meaning.{Does, rowed};
+ghost use Rattle.grid.specs.Steps.{Does, rowed};
 use crate::grid::Grid;
 use screen::cells::Cell;
 

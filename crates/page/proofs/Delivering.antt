@@ -17,7 +17,7 @@ use Rattle.std.proofs.shelf.Lists.{take-append-le}
 use Rattle.std.specs.Results.{isOk}
 use Rattle.std.specs.declared.result.Result.{Result}
 use Rattle.std.specs.declared.result.Result.the-variants.{Err, Ok}
-use Rattle.terminal.proofs.Feeds.{feed-append}
+use Rattle.screen.proofs.Sequences.{feed-append}
 use Rattle.terminal.proofs.Writes.{ends-fixed, ends-wrote}
 use Rattle.terminal.specs.Answers.{taken}
 use Rattle.terminal.specs.Windows.{geometry}

@@ -15,7 +15,7 @@ use Rattle.screen.specs.Bytes.{feed}
 use Rattle.screen.specs.Output.{eraseBytes, holdBytes, releaseBytes}
 use Rattle.screen.specs.Screen.{Geometry, Paper, Screen, blankPaper}
 use Rattle.screen.specs.declared.cells.Parser.the-variants.{Ground}
-use Rattle.terminal.proofs.Feeds.{feed-append}
+use Rattle.screen.proofs.Sequences.{feed-append}
 use Rattle.text.specs.Texts.{Styled}
 
 module _ (d : Geometry) (prompt : List ℕ) where

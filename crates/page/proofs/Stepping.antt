@@ -30,7 +30,7 @@ use Rattle.screen.specs.Screen.{Geometry, Screen, blankPaper, block, over}
 use Rattle.std.proofs.shelf.Tests.{and-from, and-parts, eqb-true}
 use Rattle.std.specs.declared.option.Option.the-variants.{None}
 use Rattle.std.specs.shelf.Text.{decodes}
-use Rattle.terminal.proofs.Feeds.{feed-append}
+use Rattle.screen.proofs.Sequences.{feed-append}
 use Rattle.terminal.specs.Limits.{proper}
 use Rattle.text.proofs.Spelling.{good-text-utf8}
 use Rattle.text.specs.Characters.{AllGood, isControl}

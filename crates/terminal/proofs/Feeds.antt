@@ -10,6 +10,7 @@ use Rattle.std.proofs.shelf.Lists.{take-all}
 use mathlib.Core.Bool.{_&&_}
 use lib.Dec.{eqb, ltb}
 use Rattle.std.proofs.shelf.Tests.{cases-lt, cond-both, cond-false, and-right, ne-eqb}
+use Rattle.screen.proofs.Sequences.{feed-append}
 use Rattle.screen.specs.Screen.{Screen, Geometry}
 use Rattle.screen.specs.Bytes.{feed, step}
 use Rattle.terminal.specs.Answers.{Worked, taken, answerFor}
@@ -17,14 +18,9 @@ use Rattle.terminal.specs.declared.terminal.WriteAnswer.{WriteAnswer}
 use Rattle.terminal.specs.declared.terminal.WriteAnswer.the-variants.{Took, Down}
 
 module _ (d : Geometry) where
-  -- bytes in two portions
-  pub feed-append : (a b : List ℕ) (s : Screen) → feed d (a ++ b) s ≡ feed d b (feed d a s)
-  feed-append [] b s = refl
-  feed-append (x ∷ a) b s = feed-append a b (step d x s)
-
   -- n bytes, and k of the rest
   pub feed-more : (n k : ℕ) (bytes : List ℕ) (s : Screen) → feed d (take k (drop n bytes)) (feed d (take n bytes) s) ≡ feed d (take (n + k) bytes) s
-  feed-more n k bytes s = sym (ap (λ l. feed d l s) (take-add n k bytes) ∙ feed-append (take n bytes) (take k (drop n bytes)) s)
+  feed-more n k bytes s = sym (ap (λ l. feed d l s) (take-add n k bytes) ∙ feed-append d (take n bytes) (take k (drop n bytes)) s)
 
   -- a write of the first n bytes is one of them all
   pub worked-front : (n : ℕ) (bytes : List ℕ) (s t : Screen) (a : WriteAnswer) → Worked d (take n bytes) s a t → Worked d bytes s a t

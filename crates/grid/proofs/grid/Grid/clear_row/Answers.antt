@@ -3,7 +3,8 @@ use native.Mathlib.Omega.{arith}
 use lib.Dec.{ltb}
 use Rattle.std.proofs.shelf.Tests.{cond-false, le-ltb}
 use Rattle.screen.specs.declared.cells.Cell.the-variants.{Blank}
-use Rattle.grid.specs.Meaning.{shown, oneCell, clearFrom}
+use Rattle.grid.specs.Meaning.{shown}
+use Rattle.grid.specs.Steps.{oneCell, clearFrom}
 use Rattle.grid.proofs.Doing.{rows-then, row-as, row-none}
 use Rattle.grid.proofs.Rows.{blanked, blanked-none, blanked-more, blanked-all}
 use Rattle.grid.proofs.grid.Grid.clear_row.Needs as need

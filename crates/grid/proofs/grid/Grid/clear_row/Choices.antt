@@ -1,4 +1,4 @@
-use Rattle.grid.specs.Meaning.{Does, rowed}
+use Rattle.grid.specs.Steps.{Does, rowed}
 use Rattle.grid.proofs.Rows.{blanked}
 use Rattle.grid.proofs.grid.Grid.clear_row.Given as given
 

@@ -2,7 +2,8 @@ use mathlib.Core.Path.{_≡_, refl, sym, ap, _∙_}
 use Prim.Native.Nat.{_+_, _-_}
 use native.Mathlib.Omega.{arith}
 use Rattle.screen.specs.Screen.{rowsFrom}
-use Rattle.grid.specs.Meaning.{shown, drawn, rowed, clearFrom}
+use Rattle.grid.specs.Meaning.{shown}
+use Rattle.grid.specs.Steps.{drawn, rowed, clearFrom}
 use Rattle.grid.proofs.Doing.{does-then, does-as}
 use Rattle.grid.proofs.Papers.{rows-none, rows-more}
 use Rattle.grid.proofs.Rows.{clear-all}

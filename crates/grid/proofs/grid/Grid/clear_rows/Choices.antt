@@ -1,6 +1,6 @@
 use Prim.Native.Nat.{_-_}
 use Rattle.screen.specs.Screen.{rowsFrom}
-use Rattle.grid.specs.Meaning.{Does, drawn}
+use Rattle.grid.specs.Steps.{Does, drawn}
 use Rattle.grid.proofs.grid.Grid.clear_rows.Given as given
 
 -- the rows passed are blank

@@ -4,7 +4,8 @@ use Rattle.std.specs.declared.option.Option.{Option}
 use Rattle.screen.specs.Screen.{marked, markAt}
 use Rattle.screen.specs.declared.cells.Cell.{Cell}
 use Rattle.screen.specs.declared.cells.Cell.the-variants.{Blank, Glyph, RightHalf}
-use Rattle.grid.specs.Meaning.{shown, oneCell}
+use Rattle.grid.specs.Meaning.{shown}
+use Rattle.grid.specs.Steps.{oneCell}
 use Rattle.grid.proofs.Doing.{row-as, row-none}
 use Rattle.grid.proofs.Rows.{mark-glyph, mark-none}
 use Rattle.grid.proofs.grid.Grid.mark.Needs as need

@@ -6,7 +6,8 @@ use lib.ListN.{length}
 use Rattle.std.specs.Of.Vec.{vec-len}
 use Rattle.std.proofs.shelf.Lists.{refilled-is}
 use Rattle.screen.specs.Screen.{blankScreen}
-use Rattle.grid.specs.Meaning.{drawn, paperOf}
+use Rattle.grid.specs.Meaning.{paperOf}
+use Rattle.grid.specs.Steps.{drawn}
 use Rattle.grid.proofs.Papers.{paper-blank}
 use Rattle.grid.proofs.grid.Grid.new.Needs as need
 

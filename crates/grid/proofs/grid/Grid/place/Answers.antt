@@ -4,7 +4,8 @@ use native.Mathlib.Omega.{arith}
 use Rattle.std.specs.declared.option.Option.the-variants.{None}
 use Rattle.screen.specs.Screen.{split, placed}
 use Rattle.screen.specs.declared.cells.Cell.the-variants.{Glyph, RightHalf}
-use Rattle.grid.specs.Meaning.{shown, oneCell}
+use Rattle.grid.specs.Meaning.{shown}
+use Rattle.grid.specs.Steps.{oneCell}
 use Rattle.grid.proofs.Doing.{rows-then, row-as}
 use Rattle.grid.proofs.Rows.{placed-one, placed-two}
 use Rattle.grid.proofs.grid.Grid.place.Needs as need

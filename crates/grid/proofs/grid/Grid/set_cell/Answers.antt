@@ -3,7 +3,8 @@ use Prim.Native.Nat.{_+_, _*_, _<_}
 use lib.ListN.{length, set}
 use Rattle.std.specs.Of.Vec.{vec-items}
 use native.Mathlib.Omega.{arith}
-use Rattle.grid.specs.Meaning.{shown, drawn, paperOf}
+use Rattle.grid.specs.Meaning.{shown, paperOf}
+use Rattle.grid.specs.Steps.{drawn}
 use Rattle.grid.proofs.Papers.{paper-set}
 use Rattle.grid.proofs.grid.Grid.set_cell.Needs as need
 

@@ -3,7 +3,8 @@ use Prim.Native.Nat.{_-_}
 use native.Mathlib.Omega.{arith}
 use Rattle.screen.specs.Screen.{isHalf, split}
 use Rattle.screen.specs.declared.cells.Cell.the-variants.{Blank}
-use Rattle.grid.specs.Meaning.{shown, oneCell}
+use Rattle.grid.specs.Meaning.{shown}
+use Rattle.grid.specs.Steps.{oneCell}
 use Rattle.grid.proofs.Doing.{rows-then, row-as, row-none}
 use Rattle.grid.proofs.Rows.{split-none, split-two, split-first}
 use Rattle.grid.proofs.grid.Grid.split.Needs as need

@@ -1,9 +1,11 @@
 use mathlib.Core.Path.{ap}
 use Rattle.screen.specs.Screen.{split, wipeFrom}
-use Rattle.grid.specs.Meaning.{shown, rowed, clearFrom}
+use Rattle.grid.specs.Meaning.{shown}
+use Rattle.grid.specs.Steps.{rowed, clearFrom}
 use Rattle.grid.proofs.Doing.{rows-then, row-as, does-as}
 use Rattle.screen.specs.Bytes.{wiped}
-use Rattle.grid.specs.Meaning.{drawn, area}
+use Rattle.grid.specs.Meaning.{area}
+use Rattle.grid.specs.Steps.{drawn}
 use Rattle.grid.proofs.Rows.{wipe-clear}
 use Rattle.grid.proofs.grid.Grid.wipe.Needs as need
 

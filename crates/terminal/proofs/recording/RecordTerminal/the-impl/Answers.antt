@@ -7,7 +7,8 @@ use Rattle.screen.specs.Bytes.{feed}
 use Rattle.terminal.specs.Windows.{geometry}
 use Rattle.terminal.specs.Answers.{taken}
 use Rattle.terminal.specs.Recording.{contents, room}
-use Rattle.terminal.proofs.Feeds.{feed-append, taken-within}
+use Rattle.screen.proofs.Sequences.{feed-append}
+use Rattle.terminal.proofs.Feeds.{taken-within}
 use Rattle.terminal.proofs.Insides.{inside-blank}
 use Rattle.terminal.proofs.recording.RecordTerminal.the-impl.Needs as need
 
