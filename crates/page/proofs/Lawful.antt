@@ -17,7 +17,7 @@ use Rattle.page.proofs.Quieting.{calm-clear, rests-clear, rests-draw, rests-er
 use Rattle.page.proofs.Showing.{Showing, cursor-end, feedAll, showing-shows, shows-showing}
 use Rattle.page.proofs.Spelt.{one-good, spells-decodes, styled-decodes}
 use Rattle.page.proofs.Stepping.{anew, shows-clear, shows-first, shows-go, shows-insert, shows-notice}
-use Rattle.page.specs.Acts.{Act, Replies, clear, closed, create, edited, endsLine, finish, go, gone, insert, lineAfter, message, noted, notice, pageAfter, posAfter, refresh, set, settled, stays}
+use Rattle.page.specs.Acts.{Act, Replies, clear, closed, create, edited, endsLine, finish, go, gone, insert, message, noted, notice, pageAfter, refresh, set, settled, stays}
 use Rattle.page.specs.Law.{Coloured, Moment, NoteLit, Settings, Shown, Stepped, Uncoloured, Went, World, draws, geometryOf, noteBytes}
 use Rattle.page.specs.Meaning.{Meant}
 use Rattle.page.specs.Output.{closeNotice, direct, drawPage, erasePage, firstPage, letGo, movePage, redraw, styledBlock, toEnd, writes}
@@ -28,8 +28,8 @@ use Rattle.page.specs.declared.outcome.Rejection.the-variants.{Broke, Refused}
 use Rattle.screen.proofs.Calming.{Loose, Rests, bareParser, calm, calm-take, escapeParser, loose-feed, modeParser, rests-append, rests-byte, rests-calm, rests-none}
 use Rattle.screen.proofs.Drawing.{over-blank}
 use Rattle.screen.proofs.Erasing.{cut}
-use Rattle.screen.proofs.Keeping.{kept-feed}
 use Rattle.screen.proofs.Heights.{place-col}
+use Rattle.screen.proofs.Keeping.{kept-feed}
 use Rattle.screen.specs.Bytes.{feed}
 use Rattle.screen.specs.Laws.{Kept}
 use Rattle.screen.specs.Output.{clearBytes, eraseBytes, moveBytes, releaseBytes}
@@ -240,9 +240,6 @@ module _ {T H : Type 0} (w : World T H) (z : Settings) (meant : Meant w) (rawSho
       by finish nc nf u tf e st = absurd (nf refl)
 
   -- what an act that no rule refused leaves, whatever its writes answered
-  hint-good : (m n : Moment T H) (a : Act) (r : Result Unit BrokenAct) (g : Went w z m a r n) → (t : List ℕ) → g .replies .hint ≡ Some t → GoodText t
-  hint-good m n a r g t e = meant .hintGood (lineAfter a (m .page)) (posAfter a (m .page)) t (sym (g .hint) ∙ e)
-
   abbrev act-writes : (m n : Moment T H) (a : Act) (r : Result Unit BrokenAct) → Went w z m a r n → List (List ℕ)
   act-writes m n a r g = writes d prompt (z .holds) (m .torn) a (g .replies) (m .page) (n .page)
 
@@ -272,7 +269,7 @@ module _ {T H : Type 0} (w : World T H) (z : Settings) (meant : Meant w) (rawSho
   went-sane : (m n : Moment T H) (a : Act) (r : Result Unit BrokenAct) → Sane m → (a ≡ create → ⊥) → (a ≡ finish → isOk r ≡ false) → Admitted d prompt (m .torn) (w .extent (m .terminal) ≡ z .size) a (m .page) → Went w z m a r n → Sane n
   went-sane m n a r s nc nf ad g =
       let x = through m n a r g (s .size) in
-      let l : Lived-page d prompt (n .page) = subst (Lived-page d prompt) (sym (g .page)) (after-proper d prompt (w .screen (m .terminal)) a (g .replies) (isOk r) (m .page) nc nf (hint-good m n a r g) (ad .text) (ad .place) (ad .height) (s .page)) in
+      let l : Lived-page d prompt (n .page) = subst (Lived-page d prompt) (sym (g .page)) (after-proper d prompt (w .screen (m .terminal)) a (g .replies) (isOk r) (m .page) nc nf (g .hintFine) (ad .text) (ad .place) (ad .height) (s .page)) in
       record {
         size = x .size;
         kept = left-kept m n a r g (s .size) (s .kept);
@@ -334,7 +331,7 @@ module _ {T H : Type 0} (w : World T H) (z : Settings) (meant : Meant w) (rawSho
   created-sane m n r e rd hf g =
       let k = ready-kept (m .terminal) e rd in
       let x = through m n create r g e in
-      let l : Lived-page d prompt (n .page) = subst (Lived-page d prompt) (sym (g .page)) (created-proper d prompt (w .screen (m .terminal)) (g .replies) (isOk r) (m .page) (hint-good m n create r g) hf (k .above)) in
+      let l : Lived-page d prompt (n .page) = subst (Lived-page d prompt) (sym (g .page)) (created-proper d prompt (w .screen (m .terminal)) (g .replies) (isOk r) (m .page) (g .hintFine) hf (k .above)) in
       record {
         size = x .size;
         kept = left-kept m n create r g e k;

@@ -11,3 +11,4 @@ pub mod Closing
 pub mod Quieting
 pub mod Lawful
 pub mod Chaining
+pub mod Computing

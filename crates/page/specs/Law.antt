@@ -20,6 +20,7 @@ use Rattle.terminal.specs.Writing.{Ends}
 use Rattle.terminal.specs.declared.size.Size.{Size}
 use Rattle.terminal.specs.declared.terminal.WriteAnswer.{WriteAnswer}
 use Rattle.terminal.specs.declared.writing.BrokenWrite.{BrokenWrite}
+use Rattle.text.specs.Texts.{GoodText}
 use Rattle.text.specs.declared.refusal.Refusal.{Refusal}
 
 -- how a list of writes ends: all are taken, or one breaks, with its number from 0
@@ -126,6 +127,7 @@ module _ {T H : Type 0} (w : World T H) (z : Settings) where
   pub record Went (m : Moment T H) (a : Act) (r : Result Unit BrokenAct) (n : Moment T H) : Type 0 where
     pub replies : Replies
     pub hint : replies .hint ≡ w .hints (lineAfter a (m .page)) (posAfter a (m .page))
+    pub hintFine : (t : List ℕ) → replies .hint ≡ Some t → GoodText t
     pub page : n .page ≡ pageAfter geometryOf (z .prompt) (w .screen (m .terminal)) a replies (isOk r) (m .page)
     pub asks : Asks a (m .page) (n .page) (m .highlighter) (replies .yes) (n .highlighter)
     pub styled : draws a replies (m .page) (n .page) ≡ true → StyledBy (n .highlighter) (n .page) replies

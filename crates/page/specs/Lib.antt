@@ -5,3 +5,4 @@ pub mod Rules
 pub mod Law
 pub mod Meaning
 pub mod Runs
+pub mod Computed

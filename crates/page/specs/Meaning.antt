@@ -4,12 +4,11 @@ use mathlib.Core.Bool.{Bool, true}
 use mathlib.Core.List.{List}
 use mathlib.Core.Path.{_≡_}
 use Rattle.page.specs.Law.{World}
-use Rattle.std.specs.declared.option.Option.the-variants.{Some}
 use Rattle.terminal.specs.Answers.{Worked}
 use Rattle.terminal.specs.Windows.{Inside, geometry}
 use Rattle.terminal.specs.declared.terminal.WriteAnswer.{WriteAnswer}
 use Rattle.text.specs.Characters.{isControl}
-use Rattle.text.specs.Texts.{GoodText, Spells, Styled}
+use Rattle.text.specs.Texts.{Spells, Styled}
 
 module _ {T H : Type 0} (w : World T H) where
   pub record Meant : Type 0 where
@@ -24,5 +23,3 @@ module _ {T H : Type 0} (w : World T H) where
     pub lineShown : (h : H) (line cs lit : List ℕ) (pos : ℕ) → Spells line cs → w .lights h line pos lit → Styled lit cs
     pub promptShown : (h : H) (prompt cs lit : List ℕ) (standard : Bool) → Styled prompt cs → w .lightsPrompt h prompt standard lit → Styled lit cs
     pub hintShown : (h : H) (hint cs lit : List ℕ) → Spells hint cs → w .lightsHint h hint lit → Styled lit cs
-    -- the hinter answers good text
-    pub hintGood : (line : List ℕ) (pos : ℕ) (t : List ℕ) → w .hints line pos ≡ Some t → GoodText t
