@@ -296,11 +296,11 @@ impl Model {
         self.lay = new;
     }
     fn redraw(&mut self, o: &mut Vec<Vec<u8>>, note: Option<String>) { let n = self.compute(note.as_deref()); self.draw(o, true, n, note); }
-    fn shift(a: P, b: P) -> Vec<u8> {
+    fn shift(from: P, to: P) -> Vec<u8> {
         let one = |n: u32, c: char| if n == 1 { format!("\x1b[{c}") } else { format!("\x1b[{n}{c}") };
         let mut s = String::new();
-        if b.1 > a.1 { s += &one(b.1 - a.1, 'B'); } else if b.1 < a.1 { s += &one(a.1 - b.1, 'A'); }
-        if b.0 > a.0 { s += &one(b.0 - a.0, 'C'); } else if b.0 < a.0 { s += &one(a.0 - b.0, 'D'); }
+        if to.1 > from.1 { s += &one(to.1 - from.1, 'B'); } else if to.1 < from.1 { s += &one(from.1 - to.1, 'A'); }
+        if to.0 > from.0 { s += &one(to.0 - from.0, 'C'); } else if to.0 < from.0 { s += &one(from.0 - to.0, 'D'); }
         s.into_bytes()
     }
     /// number of the refusal by the table (3, 4, 5, 6), for acts on a terminal of the right size

@@ -11,12 +11,12 @@ use widths::tables::Eastern;
 use widths::tables::EasternWidths;
 
 // Blank cells.
-pub fn cells(heap: Global, count: usize) -> Result<Vec<Cell>, AllocError> {
+pub(crate) fn cells(heap: Global, count: usize) -> Result<Vec<Cell>, AllocError> {
     vec![in heap; Cell::Blank; count]
 }
 
 // A window of 5 columns and 3 rows.
-pub fn window() -> Result<Size, Fail> {
+pub(crate) fn window() -> Result<Size, Fail> {
     match Size::new(5, 3) {
         Ok(size) => Ok(size),
         Err(_) => Err(Fail::new("a size is refused")),
@@ -24,7 +24,7 @@ pub fn window() -> Result<Size, Fail> {
 }
 
 // A grid with so many cells.
-pub fn grid(heap: Global, count: usize) -> Result<Grid<Eastern>, Fail> {
+pub(crate) fn grid(heap: Global, count: usize) -> Result<Grid<Eastern>, Fail> {
     match Grid::new(Eastern, cells(heap, count)?, window()?) {
         Ok(grid) => Ok(grid),
         Err(_) => Err(Fail::new("the cells are too few")),
@@ -45,7 +45,7 @@ fn show_cell(text: &mut String, cell: Cell) -> Result<(), AllocError> {
 }
 
 // The cursor's row and column and the window's top, `held` if an update is held, and then the rows of paper, each behind a `|`.
-pub fn picture(heap: Global, grid: &Grid<Eastern>) -> Result<String, AllocError> {
+pub(crate) fn picture(heap: Global, grid: &Grid<Eastern>) -> Result<String, AllocError> {
     let row = grid.row();
     let col = grid.col();
     let top = grid.top();
@@ -61,7 +61,7 @@ pub fn picture(heap: Global, grid: &Grid<Eastern>) -> Result<String, AllocError>
 }
 
 // What the bytes draw on a blank screen.
-pub fn after(heap: Global, bytes: &[u8]) -> Result<String, Fail> {
+pub(crate) fn after(heap: Global, bytes: &[u8]) -> Result<String, Fail> {
     let mut grid = grid(heap, 20)?;
     match write_all(&mut grid, bytes) {
         Ok(()) => Ok(picture(heap, &grid)?),
@@ -73,7 +73,7 @@ pub fn after(heap: Global, bytes: &[u8]) -> Result<String, Fail> {
 pub type Case = (&'static [u8], &'static str);
 
 // Whether each case draws what it should.
-pub fn all_draw(heap: Global, cases: &[Case]) -> Result<(), Fail> {
+pub(crate) fn all_draw(heap: Global, cases: &[Case]) -> Result<(), Fail> {
     for (bytes, shown) in cases {
         let seen = after(heap, bytes)?;
         check_eq(seen.as_str(), *shown)?;
