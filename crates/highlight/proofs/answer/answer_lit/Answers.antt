@@ -22,7 +22,7 @@ returns c =
     let five = front-more c.put.new.out (take (length text - (at + 1)) (drop (at + 1) text)) c.put.result four c.put.ensures.end c.put.ensures.front c.put.ensures.rest in
     let parts : (((take (at - 0) text ++ style (codes "1;34")) ++ (b ∷ [])) ++ style (codes "0")) ++ take (length text - (at + 1)) (drop (at + 1) text) ≡ take at text ++ (style (codes "1;34") ++ (b ∷ (style (codes "0") ++ drop (at + 1) text))) =
     in_a_row (take (at - 0) text) (style (codes "1;34")) (style (codes "0")) (take (length text - (at + 1)) (drop (at + 1) text)) b ∙ rw (sub-zero, take_rest) in
-    let room : length text + 256 ≤ length c.args.out.now = leb-true (length text + 256) (length c.args.out.now) (sym c.if-not-has-room.ensures) in
+    let room : length text + 256 ≤ length c.args.out.now = leb-true (length text + 256) (length c.args.out.now) (sym c.if-not-has_room.ensures) in
     let front = length-take (at - 0) text in
     let back = length-take (length text - (at + 1)) (drop (at + 1) text) in
     record { room = room; within = omega (arith, c.put-n.ensures.end, c.put-n-2.ensures.end, c.put-n-3.ensures.end, c.put-n-4.ensures.end, c.put.ensures.end, c.requires); answer = five.bytes ∙ parts; rest = five.rest }

@@ -15,23 +15,23 @@ returns-then-caption-line c =
     elim c.then-caption-line.branch [
       | then-caption-line-via-then-caption-line w ↦ refuses line caption (λ k. omega (arith, k.longer, w.if-caption-line.true))
       | then-caption-line-via-else-caption-line+then-not-starts-with w ↦
-          refuses line caption (λ k. both_ways w.starts-with.result w.if-not-starts-with.true ((slice_eq-Decides Decides-eqb line (take (length line) caption) w.starts-with.result w.starts-with.ensures.value).1 (sym k.begins)))
+          refuses line caption (λ k. both_ways w.starts_with.result w.if-not-starts_with.true ((slice_eq-Decides Decides-eqb line (take (length line) caption) w.starts_with.result w.starts_with.ensures.value).1 (sym k.begins)))
     ] in
     record { rule = none; value = same_from_decides false (goes_on line caption) none (goes-on-decides line caption) }
 
-pub returns-then-is-boundary : goal.returns-then-is-boundary
-returns-then-is-boundary c =
+pub returns-then-is_boundary : goal.returns-then-is_boundary
+returns-then-is_boundary c =
     let line = c.args.line.now in
     let caption = c.args.caption.now in
-    let begins = (slice_eq-Decides Decides-eqb line (take (length line) caption) c.starts-with.result c.starts-with.ensures.value).0 c.if-not-starts-with.false in
-    let good = Decides-at c.is-ok.result _ c.is-ok.ensures.value (checks-decides caption c.check-text.result c.check-text.ensures) in
-    let some = Decides-like c.is-ok.result (continues-from line caption (sym begins) c.if-caption-line.false (c.is-boundary.ensures.place.0 c.if-is-boundary.true)) (λ k. k.good) good in
-    record { rule = some; value = same_from_decides c.is-ok.result (goes_on line caption) some (goes-on-decides line caption) }
+    let begins = (slice_eq-Decides Decides-eqb line (take (length line) caption) c.starts_with.result c.starts_with.ensures.value).0 c.if-not-starts_with.false in
+    let good = Decides-at c.is_ok.result _ c.is_ok.ensures.value (checks-decides caption c.check_text.result c.check_text.ensures) in
+    let some = Decides-like c.is_ok.result (continues-from line caption (sym begins) c.if-caption-line.false (c.is_boundary.ensures.place.0 c.if-is_boundary.true)) (λ k. k.good) good in
+    record { rule = some; value = same_from_decides c.is_ok.result (goes_on line caption) some (goes-on-decides line caption) }
 
-pub returns-else-is-boundary : goal.returns-else-is-boundary
-returns-else-is-boundary c =
+pub returns-else-is_boundary : goal.returns-else-is_boundary
+returns-else-is_boundary c =
     let line = c.args.line.now in
     let caption = c.args.caption.now in
-    let none : Decides c.is-boundary.result (Continues line caption) =
-    ((λ e. absurd (both_ways c.is-boundary.result c.if-is-boundary.false e)), (λ k. c.is-boundary.ensures.place.1 (continues-boundary k))) in
-    record { rule = none; value = same_from_decides c.is-boundary.result (goes_on line caption) none (goes-on-decides line caption) }
+    let none : Decides c.is_boundary.result (Continues line caption) =
+    ((λ e. absurd (both_ways c.is_boundary.result c.if-is_boundary.false e)), (λ k. c.is_boundary.ensures.place.1 (continues-boundary k))) in
+    record { rule = none; value = same_from_decides c.is_boundary.result (goes_on line caption) none (goes-on-decides line caption) }

@@ -9,16 +9,16 @@ pub returns-then-continues : goal.returns-then-continues
 returns-then-continues c =
     let script = c.args.script.now in
     let start = c.loop-start.start in
-    let n = c.caption-end.result in
-    let turn = first-turn c.args.line.now script (take (length script - start) (drop start script)) (take (start + n - start) (drop start script)) start n (take_rest script start) (ap (λ k. take k (drop start script)) (omega arith)) c.caption-end.ensures.within c.caption-end.ensures.before c.caption-end.ensures.found in
+    let n = c.caption_end.result in
+    let turn = first-turn c.args.line.now script (take (length script - start) (drop start script)) (take (start + n - start) (drop start script)) start n (take_rest script start) (ap (λ k. take k (drop start script)) (omega arith)) c.caption_end.ensures.within c.caption_end.ensures.before c.caption_end.ensures.found in
     sym (c.loop-start.invariant ∙ turn ∙ cond-true (goes_on c.args.line.now (take (start + n - start) (drop start script))) (Some (take (start + n - start) (drop start script))) (first_continuing c.args.line.now (captions_of (drop (start + n + 1) script))) (sym c.if-continues.ensures.value))
 
 pub loop-start-preserved : goal.loop-start-preserved
 loop-start-preserved c =
     let script = c.args.script.now in
     let start = c.loop-start.start in
-    let n = c.caption-end.result in
-    let turn = first-turn c.args.line.now script (take (length script - start) (drop start script)) (take (start + n - start) (drop start script)) start n (take_rest script start) (ap (λ k. take k (drop start script)) (omega arith)) c.caption-end.ensures.within c.caption-end.ensures.before c.caption-end.ensures.found in
+    let n = c.caption_end.result in
+    let turn = first-turn c.args.line.now script (take (length script - start) (drop start script)) (take (start + n - start) (drop start script)) start n (take_rest script start) (ap (λ k. take k (drop start script)) (omega arith)) c.caption_end.ensures.within c.caption_end.ensures.before c.caption_end.ensures.found in
     c.loop-start.invariant ∙ turn ∙ cond-false (goes_on c.args.line.now (take (start + n - start) (drop start script))) (Some (take (start + n - start) (drop start script))) (first_continuing c.args.line.now (captions_of (drop (start + n + 1) script))) (sym c.if-continues.ensures.value)
 
 pub returns : goal.returns

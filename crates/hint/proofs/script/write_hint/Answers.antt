@@ -6,8 +6,8 @@ use Rattle.hint.proofs.script.write_hint.Goals as goal
 pub returns : goal.returns
 returns c =
     let hint = c.args.hint.now in
-    let copied = c.copy-from-slice.ensures.after in
-    let last = c.copy-from-slice.new.self in
+    let copied = c.copy_from_slice.ensures.after in
+    let last = c.copy_from_slice.new.self in
     let past = post_of 0 (length hint - 0) c.args.out.now in
     record {
       len = refl;

@@ -9,4 +9,4 @@ returns-in-Some g c =
 
 pub returns-in-None : goal.returns-in-None
 returns-in-None g c =
-    drops-hint g.W.WidthTable.columns c.args.prompt c.args.size c.args.ends c.args.hint.now (option_map (λ x. x.now) c.get.result) c.get.ensures c.bare-layout.result (note_of c.clear.new.self) c.clear.ensures c.in-None.ensures c.bare-layout.ensures
+    drops-hint g.W.WidthTable.columns c.args.prompt c.args.size c.args.ends c.args.hint.now (option_map (λ x. x.now) c.get.result) c.get.ensures c.bare_layout.result (note_of c.clear.new.self) c.clear.ensures c.in-None.ensures c.bare_layout.ensures

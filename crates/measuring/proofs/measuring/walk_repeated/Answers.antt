@@ -8,12 +8,12 @@ loop-init g c = repeats-none g.W.WidthTable.columns g.met.W.WidthTable.narrow c.
 
 pub loop-preserved : goal.loop-preserved
 loop-preserved g c =
-    repeats-more g.W.WidthTable.columns g.met.W.WidthTable.narrow c.args.cols c.args.from c.args.text.now c.loop.counter c.loop.place c.in-ok-place.place c.loop.invariant c.in-ok-place.ensures
+    repeats-more g.W.WidthTable.columns g.met.W.WidthTable.narrow c.args.cols c.args.from c.args.text.now c.loop.counter c.loop.place c.in_ok-place.place c.loop.invariant c.in_ok-place.ensures
 
-pub returns-in-err-place : goal.returns-in-err-place
-returns-in-err-place g c =
-    rw c.from-residual.ensures
-    (repeats-stuck g.W.WidthTable.columns g.met.W.WidthTable.narrow c.args.cols c.args.from c.args.text.now c.loop.counter c.args.count c.loop.place c.loop-test.true c.loop.invariant c.in-err-place.ensures)
+pub returns-in_err-place : goal.returns-in_err-place
+returns-in_err-place g c =
+    rw c.from_residual.ensures
+    (repeats-stuck g.W.WidthTable.columns g.met.W.WidthTable.narrow c.args.cols c.args.from c.args.text.now c.loop.counter c.args.count c.loop.place c.loop-test.true c.loop.invariant c.in_err-place.ensures)
 
 pub returns : goal.returns
 returns g c =

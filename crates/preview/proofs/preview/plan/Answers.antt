@@ -11,26 +11,26 @@ use Rattle.preview.proofs.preview.plan.Goals as goal
 pub unwrap-end-requires : goal.unwrap-end-requires
 unwrap-end-requires g c =
     let k = c.in-Some.ensures in
-    let f = fine-caption c.args.caption.now c.in-ok-check-caption.ensures in
-    end-some g.W.WidthTable.columns g.met.W.WidthTable.narrow c.args.size c.args.prompt.now _ c.visible-prompt.new.out c.args.caption.now c.in-Some.count k.2 k.1 c.visible-prompt.array_long c.cols.result c.cols.ensures f.0 f.1 c.end-of.result c.end-of.ensures
+    let f = fine-caption c.args.caption.now c.in_ok-check_caption.ensures in
+    end-some g.W.WidthTable.columns g.met.W.WidthTable.narrow c.args.size c.args.prompt.now _ c.visible_prompt.new.out c.args.caption.now c.in-Some.count k.2 k.1 c.visible_prompt.array_long c.cols.result c.cols.ensures f.0 f.1 c.end_of.result c.end_of.ensures
 
 pub returns-then-end-rows : goal.returns-then-end-rows
 returns-then-end-rows g c =
     let k = c.in-Some.ensures in
-    let f = fine-caption c.args.caption.now c.in-ok-check-caption.ensures in
+    let f = fine-caption c.args.caption.now c.in_ok-check_caption.ensures in
     let d = geometry g.W.WidthTable.columns c.args.size in
     let cs = k.2.characters in
     let e : c.unwrap-end.result ≡ place_of d (block d (cs ++ chars c.args.caption.now)) =
-    end-place-is g.W.WidthTable.columns g.met.W.WidthTable.narrow c.args.size c.args.prompt.now _ c.visible-prompt.new.out c.args.caption.now c.in-Some.count k.2 k.1 c.visible-prompt.array_long c.cols.result c.cols.ensures f.0 f.1 c.end-of.result c.unwrap-end.result c.end-of.ensures c.unwrap-end.ensures cs k.2.styled in
+    end-place-is g.W.WidthTable.columns g.met.W.WidthTable.narrow c.args.size c.args.prompt.now _ c.visible_prompt.new.out c.args.caption.now c.in-Some.count k.2 k.1 c.visible_prompt.array_long c.cols.result c.cols.ensures f.0 f.1 c.end_of.result c.unwrap-end.result c.end_of.ensures c.unwrap-end.ensures cs k.2.styled in
     refuses-tall d c.args.prompt.now c.args.caption.now cs (k.0, (cs, k.2.styled)) f.0 f.1 k.2.styled (subst (λ (p : Position). c.args.size.rows ≤ p.row) e (let h = c.if-end-rows.true in let r = c.rows.ensures in omega arith))
 
 pub returns : goal.returns
 returns g c =
     let k = c.in-Some.ensures in
-    let f = fine-caption c.args.caption.now c.in-ok-check-caption.ensures in
+    let f = fine-caption c.args.caption.now c.in_ok-check_caption.ensures in
     let d = geometry g.W.WidthTable.columns c.args.size in
     let e : (cs : List ℕ) → Styled c.args.prompt.now cs → c.unwrap-end.result ≡ place_of d (block d (cs ++ chars c.args.caption.now)) =
-    end-place-is g.W.WidthTable.columns g.met.W.WidthTable.narrow c.args.size c.args.prompt.now _ c.visible-prompt.new.out c.args.caption.now c.in-Some.count k.2 k.1 c.visible-prompt.array_long c.cols.result c.cols.ensures f.0 f.1 c.end-of.result c.unwrap-end.result c.end-of.ensures c.unwrap-end.ensures in (
+    end-place-is g.W.WidthTable.columns g.met.W.WidthTable.narrow c.args.size c.args.prompt.now _ c.visible_prompt.new.out c.args.caption.now c.in-Some.count k.2 k.1 c.visible_prompt.array_long c.cols.result c.cols.ensures f.0 f.1 c.end_of.result c.unwrap-end.result c.end_of.ensures c.unwrap-end.ensures in (
       refuses-none d c.args.prompt.now c.args.caption.now (k.0, (k.2.characters, k.2.styled)) f.0 f.1 (λ cs st. subst (λ (p : Position). p.row < c.args.size.rows) (e cs st) (let h = c.if-end-rows.false in let r = c.rows.ensures in omega arith)),
-      record { end = e; bracket = c.lit-bracket-bracket.ensures },
+      record { end = e; bracket = c.lit_bracket-bracket.ensures },
     )

@@ -3,28 +3,28 @@ use Rattle.render.proofs.Notices.{drawing-last, drawing-next, erasing-broke, lin
 use Rattle.std.proofs.lemmas.Result.{err_from_is_err_and}
 use Rattle.render.proofs.notice.write_parts.Goals as goal
 
-pub returns-in-err-write-next : goal.returns-in-err-write-next
-returns-in-err-write-next g c =
-    let p = err_from_is_err_and c.from-residual.result c.from-residual.ensures.1 in
-    rw (p.1, p.2) (erasing-broke g.T.Terminal.answered c.args.terminal.now c.write-next.new.terminal c.args.erasing.now c.args.text.now c.args.drawing.now _ c.in-err-write-next.ensures)
+pub returns-in_err-write_next : goal.returns-in_err-write_next
+returns-in_err-write_next g c =
+    let p = err_from_is_err_and c.from_residual.result c.from_residual.ensures.1 in
+    rw (p.1, p.2) (erasing-broke g.T.Terminal.answered c.args.terminal.now c.write_next.new.terminal c.args.erasing.now c.args.text.now c.args.drawing.now _ c.in_err-write_next.ensures)
 
-pub returns-in-err-write-next-2 : goal.returns-in-err-write-next-2
-returns-in-err-write-next-2 g c =
-    let p = err_from_is_err_and c.from-residual-in-err-write-next-2.result c.from-residual-in-err-write-next-2.ensures.1 in
-    rw (p.1, p.2) (text-broke g.T.Terminal.answered c.args.terminal.now c.write-next.new.terminal c.args.erasing.now c.args.text.now c.args.drawing.now c.write-next-2.new.terminal c.in-ok-write-next.ensures _ c.in-err-write-next-2.ensures)
+pub returns-in_err-write_next-2 : goal.returns-in_err-write_next-2
+returns-in_err-write_next-2 g c =
+    let p = err_from_is_err_and c.from_residual-in_err-write_next-2.result c.from_residual-in_err-write_next-2.ensures.1 in
+    rw (p.1, p.2) (text-broke g.T.Terminal.answered c.args.terminal.now c.write_next.new.terminal c.args.erasing.now c.args.text.now c.args.drawing.now c.write_next-2.new.terminal c.in_ok-write_next.ensures _ c.in_err-write_next-2.ensures)
 
-pub returns-then-ends-line : goal.returns-then-ends-line
-returns-then-ends-line g c =
-    drawing-next g.T.Terminal.answered c.args.terminal.now c.write-next.new.terminal c.args.erasing.now c.args.text.now c.args.drawing.now c.write-next-2.new.terminal c.in-ok-write-next.ensures c.write-next-then-ends-line.new.terminal c.in-ok-write-next-2.ensures
-    c.write-next-then-ends-line.result (sym c.if-ends-line.ensures) c.write-next-then-ends-line.ensures
+pub returns-then-ends_line : goal.returns-then-ends_line
+returns-then-ends_line g c =
+    drawing-next g.T.Terminal.answered c.args.terminal.now c.write_next.new.terminal c.args.erasing.now c.args.text.now c.args.drawing.now c.write_next-2.new.terminal c.in_ok-write_next.ensures c.write_next-then-ends_line.new.terminal c.in_ok-write_next-2.ensures
+    c.write_next-then-ends_line.result (sym c.if-ends_line.ensures) c.write_next-then-ends_line.ensures
 
-pub returns-in-err-write-next-3 : goal.returns-in-err-write-next-3
-returns-in-err-write-next-3 g c =
-    let p = err_from_is_err_and c.from-residual-in-err-write-next-3.result c.from-residual-in-err-write-next-3.ensures.1 in
-    rw (p.1, p.2) (line-broke g.T.Terminal.answered c.args.terminal.now c.write-next.new.terminal c.args.erasing.now c.args.text.now c.args.drawing.now c.write-next-2.new.terminal c.in-ok-write-next.ensures c.write-next-3.new.terminal c.in-ok-write-next-2.ensures
-    _ (sym c.if-ends-line.ensures) c.in-err-write-next-3.ensures)
+pub returns-in_err-write_next-3 : goal.returns-in_err-write_next-3
+returns-in_err-write_next-3 g c =
+    let p = err_from_is_err_and c.from_residual-in_err-write_next-3.result c.from_residual-in_err-write_next-3.ensures.1 in
+    rw (p.1, p.2) (line-broke g.T.Terminal.answered c.args.terminal.now c.write_next.new.terminal c.args.erasing.now c.args.text.now c.args.drawing.now c.write_next-2.new.terminal c.in_ok-write_next.ensures c.write_next-3.new.terminal c.in_ok-write_next-2.ensures
+    _ (sym c.if-ends_line.ensures) c.in_err-write_next-3.ensures)
 
 pub returns : goal.returns
 returns g c =
-    drawing-last g.T.Terminal.answered c.args.terminal.now c.write-next.new.terminal c.args.erasing.now c.args.text.now c.args.drawing.now c.write-next-2.new.terminal c.in-ok-write-next.ensures c.write-next-3.new.terminal c.in-ok-write-next-2.ensures
-    c.write-next-4.new.terminal c.write-next-4.result (sym c.if-ends-line.ensures) c.in-ok-write-next-3.ensures c.write-next-4.ensures
+    drawing-last g.T.Terminal.answered c.args.terminal.now c.write_next.new.terminal c.args.erasing.now c.args.text.now c.args.drawing.now c.write_next-2.new.terminal c.in_ok-write_next.ensures c.write_next-3.new.terminal c.in_ok-write_next-2.ensures
+    c.write_next-4.new.terminal c.write_next-4.result (sym c.if-ends_line.ensures) c.in_ok-write_next-3.ensures c.write_next-4.ensures

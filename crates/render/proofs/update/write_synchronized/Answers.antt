@@ -7,10 +7,10 @@ use Rattle.screen.specs.Output.{hold_bytes, release_bytes}
 use Rattle.std.proofs.lemmas.Result.{err_from_is_err_and}
 use Rattle.render.proofs.update.write_synchronized.Goals as goal
 
-pub returns-in-err-update : goal.returns-in-err-update
-returns-in-err-update g c =
-    let p = err_from_is_err_and c.from-residual.result c.from-residual.ensures.1 in
-    rw (p.1, p.2) (framed-begin g.T.Terminal.answered c.args.holds (c.args.bytes.now ∷ []) c.in-err-update.ensures.written)
+pub returns-in_err-update : goal.returns-in_err-update
+returns-in_err-update g c =
+    let p = err_from_is_err_and c.from_residual.result c.from_residual.ensures.1 in
+    rw (p.1, p.2) (framed-begin g.T.Terminal.answered c.args.holds (c.args.bytes.now ∷ []) c.in_err-update.ensures.written)
 
 pub shifted-requires : goal.shifted-requires
 shifted-requires g c =
@@ -20,25 +20,25 @@ pub returns-in-Err : goal.returns-in-Err
 returns-in-Err g c =
     let before : c.from-before.result ≡ marks c.args.holds = c.from-before.ensures ∙ byte-marks c.args.holds in
     let same : shifted_act (marks c.args.holds) c.in-Err.broken ≡ c.shifted.result = sym (c.shifted.ensures ∙ ap (λ k. shifted_act k c.in-Err.broken) before) in
-    subst (λ b. Written g.T.Terminal.answered c.args.terminal.now (framed c.args.holds (c.args.bytes.now ∷ [])) (Err b) c.write-and-flush.new.terminal) same
-    (framed-body g.T.Terminal.answered c.args.holds (c.args.bytes.now ∷ []) c.in-Err.broken c.in-ok-update.ensures.written c.in-Err.ensures)
+    subst (λ b. Written g.T.Terminal.answered c.args.terminal.now (framed c.args.holds (c.args.bytes.now ∷ [])) (Err b) c.write_and_flush.new.terminal) same
+    (framed-body g.T.Terminal.answered c.args.holds (c.args.bytes.now ∷ []) c.in-Err.broken c.in_ok-update.ensures.written c.in-Err.ensures)
 
-pub shifted-requires-in-Err-end-synchronized-update : goal.shifted-requires-in-Err-end-synchronized-update
-shifted-requires-in-Err-end-synchronized-update g c =
-    omega (arith, written-number g.T.Terminal.answered c.in-Err-end-synchronized-update.ensures, (marks-few c.in-ok-update.update.held release_bytes).1, c.from-before.ensures, byte-marks c.args.holds, (marks-few c.args.holds hold_bytes).0)
+pub shifted-requires-in-Err-end_synchronized_update : goal.shifted-requires-in-Err-end_synchronized_update
+shifted-requires-in-Err-end_synchronized_update g c =
+    omega (arith, written-number g.T.Terminal.answered c.in-Err-end_synchronized_update.ensures, (marks-few c.in_ok-update.update.held release_bytes).1, c.from-before.ensures, byte-marks c.args.holds, (marks-few c.args.holds hold_bytes).0)
 
-pub returns-in-Ok-end-synchronized-update : goal.returns-in-Ok-end-synchronized-update
-returns-in-Ok-end-synchronized-update g c =
-    let held = c.in-ok-update.ensures.begun in
-    framed-end g.T.Terminal.answered c.args.holds (c.args.bytes.now ∷ []) (Ok tt) c.in-ok-update.ensures.written c.in-Ok.ensures
-    (subst (λ b. Written g.T.Terminal.answered c.write-and-flush.new.terminal (cond b (release_bytes ∷ []) []) (Ok tt) c.end-synchronized-update.new.terminal) held c.in-Ok-end-synchronized-update.ensures)
+pub returns-in-Ok-end_synchronized_update : goal.returns-in-Ok-end_synchronized_update
+returns-in-Ok-end_synchronized_update g c =
+    let held = c.in_ok-update.ensures.begun in
+    framed-end g.T.Terminal.answered c.args.holds (c.args.bytes.now ∷ []) (Ok tt) c.in_ok-update.ensures.written c.in-Ok.ensures
+    (subst (λ b. Written g.T.Terminal.answered c.write_and_flush.new.terminal (cond b (release_bytes ∷ []) []) (Ok tt) c.end_synchronized_update.new.terminal) held c.in-Ok-end_synchronized_update.ensures)
 
-pub returns-in-Err-end-synchronized-update : goal.returns-in-Err-end-synchronized-update
-returns-in-Err-end-synchronized-update g c =
-    let held = c.in-ok-update.ensures.begun in
-    let broken = c.in-Err-end-synchronized-update.broken in
+pub returns-in-Err-end_synchronized_update : goal.returns-in-Err-end_synchronized_update
+returns-in-Err-end_synchronized_update g c =
+    let held = c.in_ok-update.ensures.begun in
+    let broken = c.in-Err-end_synchronized_update.broken in
     let before : c.from-before.result ≡ marks c.args.holds = c.from-before.ensures ∙ byte-marks c.args.holds in
-    let same : shifted_act (marks c.args.holds + 1) broken ≡ c.shifted-in-Err-end-synchronized-update.result = sym (c.shifted-in-Err-end-synchronized-update.ensures ∙ ap (λ k. shifted_act (k + 1) broken) before) in
-    subst (λ b. Written g.T.Terminal.answered c.args.terminal.now (framed c.args.holds (c.args.bytes.now ∷ [])) (Err b) c.end-synchronized-update.new.terminal) same
-    (framed-end g.T.Terminal.answered c.args.holds (c.args.bytes.now ∷ []) (Err broken) c.in-ok-update.ensures.written c.in-Ok.ensures
-    (subst (λ b. Written g.T.Terminal.answered c.write-and-flush.new.terminal (cond b (release_bytes ∷ []) []) (Err broken) c.end-synchronized-update.new.terminal) held c.in-Err-end-synchronized-update.ensures))
+    let same : shifted_act (marks c.args.holds + 1) broken ≡ c.shifted-in-Err-end_synchronized_update.result = sym (c.shifted-in-Err-end_synchronized_update.ensures ∙ ap (λ k. shifted_act (k + 1) broken) before) in
+    subst (λ b. Written g.T.Terminal.answered c.args.terminal.now (framed c.args.holds (c.args.bytes.now ∷ [])) (Err b) c.end_synchronized_update.new.terminal) same
+    (framed-end g.T.Terminal.answered c.args.holds (c.args.bytes.now ∷ []) (Err broken) c.in_ok-update.ensures.written c.in-Ok.ensures
+    (subst (λ b. Written g.T.Terminal.answered c.write_and_flush.new.terminal (cond b (release_bytes ∷ []) []) (Err broken) c.end_synchronized_update.new.terminal) held c.in-Err-end_synchronized_update.ensures))

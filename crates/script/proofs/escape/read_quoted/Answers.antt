@@ -19,14 +19,14 @@ loop-i-preserved c =
     let text = c.args.text.now in
     let xs = vec_items c.loop-i.bytes in
     let Next : List ℕ → Spot → Type 0 = λ ys s. read_from text Plain ≡ behind ys (read_from (drop (c.loop-i.i + 1) text) s) in
-    elim c.match-step-of.branch [
+    elim c.match-step_of.branch [
       | in-Goes w ↦
           let next = reading-goes text c.loop-i.i c.loop-i.spot xs c.loop-i.invariant c.loop-i-test.true w.in-Goes.next (sym w.in-Goes.ensures) in
-          subst (λ s. Next (vec_items c.match-step-of.bytes) s) (sym w.spot-is) (subst (λ v. Next (vec_items v) w.in-Goes.next) (sym w.bytes-is) next)
+          subst (λ s. Next (vec_items c.match-step_of.bytes) s) (sym w.spot-is) (subst (λ v. Next (vec_items v) w.in-Goes.next) (sym w.bytes-is) next)
       | in-Gives+else-is-err w ↦
           let next = reading-gives text c.loop-i.i c.loop-i.spot xs c.loop-i.invariant c.loop-i-test.true w.in-Gives.value (sym w.in-Gives.ensures) in
-          let pushed : vec_items w.push.new.self ≡ xs ++ w.in-Gives.value ∷ [] = w.push.ensures.items ∙ cond-true (is_ok w.push.result) _ _ (w.is-err.ensures.negation ∙ ap not w.if-is-err.false) in
-          subst (λ s. Next (vec_items c.match-step-of.bytes) s) (sym w.spot-is) (subst (λ ys. Next ys Plain) (sym (ap vec_items w.bytes-is ∙ pushed)) next)
+          let pushed : vec_items w.push.new.self ≡ xs ++ w.in-Gives.value ∷ [] = w.push.ensures.items ∙ cond-true (is_ok w.push.result) _ _ (w.is_err.ensures.negation ∙ ap not w.if-is_err.false) in
+          subst (λ s. Next (vec_items c.match-step_of.bytes) s) (sym w.spot-is) (subst (λ ys. Next ys Plain) (sym (ap vec_items w.bytes-is ∙ pushed)) next)
     ]
 
 pub returns : goal.returns

@@ -3,12 +3,12 @@ use Rattle.text.proofs.Decodes.{lacks-second, answers-two}
 use Rattle.std.proofs.Common.{arith}
 use Rattle.text.proofs.decode.two_bytes.Goals as goal
 
-pub returns-in-err-second : goal.returns-in-err-second
-returns-in-err-second c =
-    let a = lacks-second c.args.bytes.now c.args.at (omega arith) c.in-err-second.ensures in
-    rw c.from-residual.ensures (record { decodes = a.0; within = a.1 })
+pub returns-in_err-second : goal.returns-in_err-second
+returns-in_err-second c =
+    let a = lacks-second c.args.bytes.now c.args.at (omega arith) c.in_err-second.ensures in
+    rw c.from_residual.ensures (record { decodes = a.0; within = a.1 })
 
 pub returns : goal.returns
 returns c =
-    let a = answers-two c.args.bytes.now c.args.at (omega arith) _ c.in-ok-second.ensures c.spelled.result c.spelled.ensures in
+    let a = answers-two c.args.bytes.now c.args.at (omega arith) _ c.in_ok-second.ensures c.spelled.result c.spelled.ensures in
     record { decodes = a.0; within = a.1 }

@@ -11,4 +11,4 @@ loop-found-preserved c = let e = c.in-Some.ensures in good_more c.args.bytes.now
 pub returns : goal.returns
 returns c =
     let w = c.loop-found.invariant in
-    ((λ h. good-all c.args.bytes.now c.loop-found.at w h), λ h. good-stuck c.args.bytes.now c.loop-found.at w c.in-default.ensures.good h)
+    ((λ h. good-all c.args.bytes.now c.loop-found.at w h), λ h. good-stuck c.args.bytes.now c.loop-found.at w c.in_default.ensures.good h)

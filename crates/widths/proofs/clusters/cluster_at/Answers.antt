@@ -4,11 +4,11 @@ use Rattle.widths.proofs.clusters.cluster_at.Goals as goal
 
 pub returns : goal.returns
 returns g c =
-    let first = c.in-ok-first.ensures in
-    let marks = c.marks-behind-marks.ensures in
+    let first = c.in_ok-first.ensures in
+    let marks = c.marks_behind-marks.ensures in
     let within = first.within in
-    rw c.cluster-of.ensures
+    rw c.cluster_of.ensures
     record {
-      front = cluster-front _ c.args.bytes.now c.args.at c.in-ok-first.first c.marks-behind-marks.result first.decodes (record { marks = marks.marks; alone = marks.alone; next = marks.next });
+      front = cluster-front _ c.args.bytes.now c.args.at c.in_ok-first.first c.marks_behind-marks.result first.decodes (record { marks = marks.marks; alone = marks.alone; next = marks.next });
       within = (omega arith, omega arith);
     }

@@ -30,6 +30,6 @@ pub returns-in-241-to-243 : goal.returns-in-241-to-243
 unfolding begin
 returns-in-241-to-243 g c = search rules
 
-pub returns-in-default : goal.returns-in-default
+pub returns-in_default : goal.returns-in_default
 unfolding begin
-returns-in-default g c = search rules
+returns-in_default g c = search rules

@@ -16,9 +16,9 @@ loop-col-preserved g c =
     let r = c.args.row in
     let a = c.args.from in
     let col = c.loop-col.col in
-    let end = c.set-cell.new.self in
+    let end = c.set_cell.new.self in
     row_as r (λ w. one_cell col Blank (blanked a col w)) (blanked a (col + 1)) s end (blanked-more a col ((shown s).pen.paper r) (omega (arith, c.loop-col.auto.col)))
-    (rows_then r (blanked a col) (one_cell col Blank) s c.loop-col.self end c.loop-col.invariant c.set-cell.ensures)
+    (rows_then r (blanked a col) (one_cell col Blank) s c.loop-col.self end c.loop-col.invariant c.set_cell.ensures)
 
 pub returns : goal.returns
 returns g c =

@@ -18,8 +18,8 @@ loop-row-preserved g c =
     let a = c.args.from in
     let r = c.loop-row.row in
     let p = (shown s).pen.paper in
-    let end = c.clear-row.new.self in
+    let end = c.clear_row.new.self in
     let next : r ≡ r + 1 - 1 = omega arith in
     let more = rows_more a r (clear_from 0) p c.requires.some (omega (arith, c.loop-row.auto.row)) clear-all ∙ ap (λ n. rows_from a n p) next in
     does-as (λ t. rowed r (clear_from 0) (drawn (rows_from a (r - 1) t.pen.paper) t)) (λ t. drawn (rows_from a (r + 1 - 1) t.pen.paper) t) s end (ap (λ q. drawn q (shown s)) more)
-    (does-then (λ t. drawn (rows_from a (r - 1) t.pen.paper) t) (rowed r (clear_from 0)) s c.loop-row.self end c.loop-row.invariant c.clear-row.ensures)
+    (does-then (λ t. drawn (rows_from a (r - 1) t.pen.paper) t) (rowed r (clear_from 0)) s c.loop-row.self end c.loop-row.invariant c.clear_row.ensures)

@@ -10,6 +10,6 @@ pub returns-in-64-to-126 : goal.returns-in-64-to-126
 unfolding step_in
 returns-in-64-to-126 g c = search rules
 
-pub returns-in-default : goal.returns-in-default
+pub returns-in_default : goal.returns-in_default
 unfolding step_in
-returns-in-default g c = search rules
+returns-in_default g c = search rules

@@ -8,5 +8,5 @@ returns g c =
     let same = c.cols.ensures in
     record {
       value = ap (λ n. c.args.row * n + c.args.col) same;
-      within = place-within c.cols.result s.depth c.args.row c.args.col _ (ap (λ n. s.depth * n) same ∙ s.holds) c.requires.row_within (rw same c.requires.col-within);
+      within = place-within c.cols.result s.depth c.args.row c.args.col _ (ap (λ n. s.depth * n) same ∙ s.holds) c.requires.row_within (rw same c.requires.col_within);
     }

@@ -19,11 +19,11 @@ returns-in-Glyph g c =
     let s = c.args.self.now in
     let r = c.args.row in
     let x = Glyph c.in-Glyph.c c.in-Glyph.field-1 in
-    row_as r (one_cell c.args.col (marked c.args.mark x)) (mark_at c.args.mark c.args.col) s c.set-cell.new.self (mark-glyph c.args.mark c.args.col ((shown s).pen.paper r) x (sym c.in-Glyph.ensures)) c.set-cell.ensures
+    row_as r (one_cell c.args.col (marked c.args.mark x)) (mark_at c.args.mark c.args.col) s c.set_cell.new.self (mark-glyph c.args.mark c.args.col ((shown s).pen.paper r) x (sym c.in-Glyph.ensures)) c.set_cell.ensures
 
-pub returns-in-default : goal.returns-in-default
-returns-in-default g c =
+pub returns-in_default : goal.returns-in_default
+returns-in_default g c =
     let s = c.args.self.now in
     let m = c.args.mark in
-    let same = unmarked m c.cell.result c.in-default.not-Glyph in
+    let same = unmarked m c.cell.result c.in_default.not-Glyph in
     row-none c.args.row (mark_at m c.args.col) s (mark-none m c.args.col ((shown s).pen.paper c.args.row) (ap (marked m) (sym c.cell.ensures) ∙ same ∙ c.cell.ensures))

@@ -18,6 +18,6 @@ pub returns-in-68 : goal.returns-in-68
 unfolding move
 returns-in-68 g c = search rules
 
-pub returns-in-default : goal.returns-in-default
+pub returns-in_default : goal.returns-in_default
 unfolding move
-returns-in-default g c = search rules
+returns-in_default g c = search rules

@@ -16,9 +16,9 @@ returns-then-depth-rows g c =
 pub returns : goal.returns
 returns g c =
     let cut = c.truncate.new.self in
-    let items = with_items_is cut c.blank.new.cells (c.blank.auto.cells ∙ c.as-mut-slice.ensures.len) ∙ c.blank.ensures in
+    let items = with_items_is cut c.blank.new.cells (c.blank.auto.cells ∙ c.as_mut_slice.ensures.len) ∙ c.blank.ensures in
     record {
-      shows = ap (λ l. drawn (paper_of c.args.size.cols l) blank_screen) items ∙ ap (λ p. drawn p blank_screen) (paper-blank c.args.size.cols (length c.as-mut-slice.result.now));
+      shows = ap (λ l. drawn (paper_of c.args.size.cols l) blank_screen) items ∙ ap (λ p. drawn p blank_screen) (paper-blank c.args.size.cols (length c.as_mut_slice.result.now));
       depth = (λ k. c.len.ensures k / c.cols-cols.ensures k);
       size = refl;
       widths = refl;

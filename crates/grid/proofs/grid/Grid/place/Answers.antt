@@ -15,10 +15,10 @@ returns-then-width-eq2 g c =
     let w = c.args.width in
     let glyph = one_cell col (Glyph c.args.c None) in
     let edges = rows_then r (split col) (split (col + w)) s c.split.new.self c.split-2.new.self c.split.ensures c.split-2.ensures in
-    let left = rows_then r (λ f. split (col + w) (split col f)) glyph s c.split-2.new.self c.set-cell.new.self edges c.set-cell.ensures in
-    row_as r (λ f. one_cell (col + 1) RightHalf (glyph (split (col + w) (split col f)))) (placed w c.args.c col) s c.set-cell-then-width-eq2.new.self
+    let left = rows_then r (λ f. split (col + w) (split col f)) glyph s c.split-2.new.self c.set_cell.new.self edges c.set_cell.ensures in
+    row_as r (λ f. one_cell (col + 1) RightHalf (glyph (split (col + w) (split col f)))) (placed w c.args.c col) s c.set_cell-then-width-eq2.new.self
     (rw c.if-width-eq2.true (placed-two c.args.c col ((shown s).pen.paper r)))
-    (rows_then r (λ f. glyph (split (col + w) (split col f))) (one_cell (col + 1) RightHalf) s c.set-cell.new.self c.set-cell-then-width-eq2.new.self left c.set-cell-then-width-eq2.ensures)
+    (rows_then r (λ f. glyph (split (col + w) (split col f))) (one_cell (col + 1) RightHalf) s c.set_cell.new.self c.set_cell-then-width-eq2.new.self left c.set_cell-then-width-eq2.ensures)
 
 pub returns-else-width-eq2 : goal.returns-else-width-eq2
 returns-else-width-eq2 g c =
@@ -29,6 +29,6 @@ returns-else-width-eq2 g c =
     let glyph = one_cell col (Glyph c.args.c None) in
     let one : w ≡ 1 = omega (arith, c.requires.some, c.requires.narrow, c.if-width-eq2.false) in
     let edges = rows_then r (split col) (split (col + w)) s c.split.new.self c.split-2.new.self c.split.ensures c.split-2.ensures in
-    row_as r (λ f. glyph (split (col + w) (split col f))) (placed w c.args.c col) s c.set-cell.new.self
+    row_as r (λ f. glyph (split (col + w) (split col f))) (placed w c.args.c col) s c.set_cell.new.self
     (rw one (placed_one c.args.c col ((shown s).pen.paper r)))
-    (rows_then r (λ f. split (col + w) (split col f)) glyph s c.split-2.new.self c.set-cell.new.self edges c.set-cell.ensures)
+    (rows_then r (λ f. split (col + w) (split col f)) glyph s c.split-2.new.self c.set_cell.new.self edges c.set_cell.ensures)

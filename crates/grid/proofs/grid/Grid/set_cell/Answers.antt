@@ -12,7 +12,7 @@ returns g c =
     let at = c.index-index.ensures in
     let inside : c.args.row * cols + c.args.col < length cells = omega (arith, at.value, at.within, s.cells.ok.0) in
     record {
-      shows = ap (λ n. drawn (paper_of cols (set cells n c.args.cell)) (shown s)) at.value ∙ ap (λ p. drawn p (shown s)) (paper-set cols cells c.args.row c.args.col c.args.cell inside c.requires.col-within);
+      shows = ap (λ n. drawn (paper_of cols (set cells n c.args.cell)) (shown s)) at.value ∙ ap (λ p. drawn p (shown s)) (paper-set cols cells c.args.row c.args.col c.args.cell inside c.requires.col_within);
       depth = refl;
       size = refl;
     }

@@ -9,4 +9,4 @@ returns g c =
     let s = c.args.self.now in
     let at = c.index.ensures in
     let read = get_or_read_under (vec_items s.cells) c.index.result _ _ Blank c.index-2.ensures at.within s.cells.ok.0 in
-    read ∙ ap (λ n. get_or (vec_items s.cells) n Blank) at.value ∙ sym (cond-true _ _ _ (lt-ltb c.args.col s.size.cols c.requires.col-within))
+    read ∙ ap (λ n. get_or (vec_items s.cells) n Blank) at.value ∙ sym (cond-true _ _ _ (lt-ltb c.args.col s.size.cols c.requires.col_within))

@@ -3,5 +3,5 @@ use Rattle.page.proofs.Computing.{good-bytes}
 use Rattle.page.proofs.Spelt.{good_none}
 use Rattle.lines.proofs.line_buffer.LineBuffer.clear.Goals as goal
 
-pub invariant-of-self : goal.invariant-of-self
-invariant-of-self c = let none = good-bytes [] good_none in (c.args.self.now.whole, (omega arith, (none, (omega arith, (none, tt)))))
+pub invariant_of-self : goal.invariant_of-self
+invariant_of-self c = let none = good-bytes [] good_none in (c.args.self.now.whole, (omega arith, (none, (omega arith, (none, tt)))))

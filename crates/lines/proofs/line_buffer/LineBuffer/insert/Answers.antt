@@ -6,19 +6,19 @@ use Rattle.page.specs.Acts.{times}
 use Rattle.page.specs.Computed.{good_bytes}
 use Rattle.lines.proofs.line_buffer.LineBuffer.insert.Goals as goal
 
-pub invariant-of-self : goal.invariant-of-self
-invariant-of-self c =
+pub invariant_of-self : goal.invariant_of-self
+invariant_of-self c =
     let b = c.args.self.now in
     let t = c.args.text.now in
     let n = c.from-count.result in
-    let rule = insert-fine (line_of b) t c.args.count c.in-ok-check-insert.ensures in
+    let rule = insert-fine (line_of b) t c.args.count c.in_ok-check_insert.ensures in
     let bytes : n * length t ≡ c.args.count * length t = ap (λ k. k * length t) c.from-count.ensures in
     let fine = inserted b t n rule.0 in
-    let line = inserted-line b t c.put-in.new.buf n c.put-in.ensures in
+    let line = inserted-line b t c.put_in.new.buf n c.put_in.ensures in
     let within : b.len + n * length t ≤ 4096 = omega (arith, line-length b, rule.1) in
     let inside : b.pos + n * length t ≤ b.len + n * length t = omega (arith, b.inside) in (
-      c.put-in.auto.buf ∙ b.whole,
-      (within, (ap good_bytes line ∙ fine.line, (inside, (front_at c.put-in.new.buf _ (b.len + n * length t) (b.pos + n * length t) line fine.line fine.place inside, tt)))),
+      c.put_in.auto.buf ∙ b.whole,
+      (within, (ap good_bytes line ∙ fine.line, (inside, (front_at c.put_in.new.buf _ (b.len + n * length t) (b.pos + n * length t) line fine.line fine.place inside, tt)))),
     )
 
 pub returns : goal.returns
@@ -28,9 +28,9 @@ returns c =
     let n = c.from-count.result in
     let count = c.from-count.ensures in
     let bytes : n * length t ≡ c.args.count * length t = ap (λ k. k * length t) count in (
-      c.in-ok-check-insert.ensures,
+      c.in_ok-check_insert.ensures,
       (
-        inserted-line b t c.put-in.new.buf n c.put-in.ensures ∙ ap (λ k. take b.pos (line_of b) ++ (times k t ++ drop b.pos (line_of b))) count,
+        inserted-line b t c.put_in.new.buf n c.put_in.ensures ∙ ap (λ k. take b.pos (line_of b) ++ (times k t ++ drop b.pos (line_of b))) count,
         ap (λ k. b.pos + k) bytes,
       ),
     )

@@ -4,5 +4,5 @@ use Rattle.page.proofs.Spelt.{good_none}
 use Rattle.std.proofs.lemmas.List.{length-replicate}
 use Rattle.lines.proofs.line_buffer.LineBuffer.new.Goals as goal
 
-pub invariant-of-result : goal.invariant-of-result
-invariant-of-result c = let none = good-bytes [] good_none in (length-replicate {A = ℕ} 4096 0, (omega arith, (none, (omega arith, (none, tt)))))
+pub invariant_of-result : goal.invariant_of-result
+invariant_of-result c = let none = good-bytes [] good_none in (length-replicate {A = ℕ} 4096 0, (omega arith, (none, (omega arith, (none, tt)))))

@@ -6,15 +6,15 @@ use Rattle.page.proofs.Computing.{good-bytes}
 use Rattle.page.specs.Computed.{good_bytes}
 use Rattle.lines.proofs.line_buffer.LineBuffer.update.Goals as goal
 
-pub invariant-of-self : goal.invariant-of-self
-invariant-of-self c =
+pub invariant_of-self : goal.invariant_of-self
+invariant_of-self c =
     let b = c.args.self.now in
     let line = c.args.line.now in
-    let fine = update-fine line c.args.pos c.in-ok-check-update.ensures in
+    let fine = update-fine line c.args.pos c.in_ok-check_update.ensures in
     let good = good-bytes line fine.0 in
     let place = fine.2 in
-    let copied = c.copy-from-slice.new.self in
-    let same = c.copy-from-slice.ensures.after in
+    let copied = c.copy_from_slice.new.self in
+    let same = c.copy_from_slice.ensures.after in
     let front = written-front copied line _ same in (
       written-length b.buf copied line same (omega (arith, b.whole, fine.1)) ∙ b.whole,
       (
@@ -26,4 +26,4 @@ invariant-of-self c =
 pub returns : goal.returns
 returns c =
     let line = c.args.line.now in
-    (c.in-ok-check-update.ensures, (written-front c.copy-from-slice.new.self line _ c.copy-from-slice.ensures.after, refl))
+    (c.in_ok-check_update.ensures, (written-front c.copy_from_slice.new.self line _ c.copy_from_slice.ensures.after, refl))

@@ -3,7 +3,7 @@ use Rattle.std.proofs.lemmas.Bool.{ne_eqb}
 use Rattle.lines.proofs.line_buffer.checking.is_one_character.Goals as goal
 
 pub returns-then-found-bytes : goal.returns-then-found-bytes
-returns-then-found-bytes c = one_found c.args.bytes.now c.in-Some.found c.is-good.result c.in-Some.ensures.decodes c.if-found-bytes.true c.is-good.ensures
+returns-then-found-bytes c = one_found c.args.bytes.now c.in-Some.found c.is_good.result c.in-Some.ensures.decodes c.if-found-bytes.true c.is_good.ensures
 
 pub returns-else-found-bytes : goal.returns-else-found-bytes
 returns-else-found-bytes c = one-longer c.args.bytes.now c.in-Some.found c.in-Some.ensures.decodes c.if-found-bytes.false

@@ -4,8 +4,8 @@ use Rattle.page.specs.Acts.{times}
 use Rattle.std.proofs.lemmas.List.{take_all}
 use Rattle.lines.proofs.line_buffer.editing.repeat.Goals as goal
 
-pub slice-bounds-copy-from-slice-end : goal.slice-bounds-copy-from-slice-end
-slice-bounds-copy-from-slice-end c =
+pub slice_bounds-copy_from_slice-end : goal.slice_bounds-copy_from_slice-end
+slice_bounds-copy_from_slice-end c =
     let i = c.loop-i.i in
     let n = length c.args.text.now in
     let more : suc i * n ≤ c.args.count * n = mul-le-mul_right n (omega arith) in
@@ -17,7 +17,7 @@ loop-i-preserved c =
     let i = c.loop-i.i in
     let n = length c.args.text.now in
     let more : i * n ≤ c.args.count * n = mul-le-mul_right n (omega arith) in
-    fill_more c.loop-i.out c.args.text.now c.copy-from-slice.new.self i _ c.loop-i.invariant c.copy-from-slice.ensures.after (omega arith)
+    fill_more c.loop-i.out c.args.text.now c.copy_from_slice.new.self i _ c.loop-i.invariant c.copy_from_slice.ensures.after (omega arith)
 
 pub returns : goal.returns
 returns c =

@@ -6,21 +6,21 @@ use Rattle.lines.proofs.prompt.Prompt.new.Goals as goal
 
 pub returns-then-ne : goal.returns-then-ne
 returns-then-ne c =
-    let m = c.in-ok-visible-len.visible-len in
-    let n = c.in-ok-other-len.other-len in
-    let differ = (fronts-differ c.show-form.new.out c.show-form-2.new.out m n c.ne.result c.ne.ensures).0 c.if-ne.true in
-    (refl, shown-apart c.args.raw.now c.args.styled.now m n c.show-form.new.out c.show-form-2.new.out c.in-ok-visible-len.ensures c.in-ok-other-len.ensures differ)
+    let m = c.in_ok-visible_len.visible_len in
+    let n = c.in_ok-other_len.other_len in
+    let differ = (fronts-differ c.show_form.new.out c.show_form-2.new.out m n c.ne.result c.ne.ensures).0 c.if-ne.true in
+    (refl, shown-apart c.args.raw.now c.args.styled.now m n c.show_form.new.out c.show_form-2.new.out c.in_ok-visible_len.ensures c.in_ok-other_len.ensures differ)
 
-pub invariant-of-result : goal.invariant-of-result
-invariant-of-result c =
+pub invariant_of-result : goal.invariant_of-result
+invariant_of-result c =
     let raw = c.args.raw.now in
     let styled = c.args.styled.now in
-    let table = c.show-form.new.out in
-    let other = c.show-form-2.new.out in
-    let m = c.in-ok-visible-len.visible-len in
-    let n = c.in-ok-other-len.other-len in
-    let mine = c.in-ok-visible-len.ensures in
-    let its = c.in-ok-other-len.ensures in
+    let table = c.show_form.new.out in
+    let other = c.show_form-2.new.out in
+    let m = c.in_ok-visible_len.visible_len in
+    let n = c.in_ok-other_len.other_len in
+    let mine = c.in_ok-visible_len.ensures in
+    let its = c.in_ok-other_len.ensures in
     let same = (fronts-differ table other m n c.ne.result c.ne.ensures).1 c.if-ne.false in
     let spells = shown-spells raw table m mine in
     let form = shown-same raw styled m n table other mine its same in (
@@ -38,12 +38,12 @@ pub returns : goal.returns
 returns c =
     let raw = c.args.raw.now in
     let styled = c.args.styled.now in
-    let table = c.show-form.new.out in
-    let other = c.show-form-2.new.out in
-    let m = c.in-ok-visible-len.visible-len in
-    let n = c.in-ok-other-len.other-len in
-    let mine = c.in-ok-visible-len.ensures in
-    let its = c.in-ok-other-len.ensures in
+    let table = c.show_form.new.out in
+    let other = c.show_form-2.new.out in
+    let m = c.in_ok-visible_len.visible_len in
+    let n = c.in_ok-other_len.other_len in
+    let mine = c.in_ok-visible_len.ensures in
+    let its = c.in_ok-other_len.ensures in
     let same = (fronts-differ table other m n c.ne.result c.ne.ensures).1 c.if-ne.false in
     record {
       raw-form = c.table.ensures;

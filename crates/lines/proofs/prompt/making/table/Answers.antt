@@ -2,4 +2,4 @@ use Rattle.lines.proofs.Puts.{written-front}
 use Rattle.lines.proofs.prompt.making.table.Goals as goal
 
 pub returns : goal.returns
-returns c = written-front c.copy-from-slice.new.self c.args.text.now _ c.copy-from-slice.ensures.after
+returns c = written-front c.copy_from_slice.new.self c.args.text.now _ c.copy_from_slice.ensures.after

@@ -4,6 +4,6 @@ use Rattle.render.specs.Composing.{composed}
 use Rattle.screen.specs.Output.{shift_from}
 use Rattle.render.proofs.renderer.PosixRenderer.move_cursor.Goals as goal
 
-pub push-shift-from-requires-2 : goal.push-shift-from-requires-2
-push-shift-from-requires-2 g c =
-    omega (arith, ap length c.clear.ensures, push-length (composed c.push-shift-from.new.self) (composed c.clear.new.self) (shift_from 66 65 c.args.old.row c.args.new.row) c.push-shift-from.ensures.bytes, c.push-shift-from.ensures.short)
+pub push_shift_from-requires-2 : goal.push_shift_from-requires-2
+push_shift_from-requires-2 g c =
+    omega (arith, ap length c.clear.ensures, push-length (composed c.push_shift_from.new.self) (composed c.clear.new.self) (shift_from 66 65 c.args.old.row c.args.new.row) c.push_shift_from.ensures.bytes, c.push_shift_from.ensures.short)

@@ -5,11 +5,11 @@ use Rattle.render.specs.Composing.{composed}
 use Rattle.screen.specs.Output.{move_by}
 use Rattle.render.proofs.renderer.PosixRenderer.push_column.Goals as goal
 
-pub push-move-requires : goal.push-move-requires
-push-move-requires c =
+pub push_move-requires : goal.push_move-requires
+push_move-requires c =
     omega (arith, push-length (composed c.push.new.self) (composed c.args.self.now) (13 ∷ []) c.push.ensures, ap length (column-some c.args.n c.if-n-gt0.true), c.requires)
 
 pub returns-then-n-gt0 : goal.returns-then-n-gt0
 returns-then-n-gt0 c =
-    push-push (composed c.args.self.now) (composed c.push.new.self) (composed c.push-move.new.self) (13 ∷ []) (move_by 67 c.args.n) c.push.ensures c.push-move.ensures
+    push-push (composed c.args.self.now) (composed c.push.new.self) (composed c.push_move.new.self) (13 ∷ []) (move_by 67 c.args.n) c.push.ensures c.push_move.ensures
     ∙ ap (λ x. composed c.args.self.now ++ x) (sym (column-some c.args.n c.if-n-gt0.true))

@@ -13,8 +13,8 @@ unwrap-count-requires g c =
     let b = c.args.line.now in
     answer-some c.args.self.now (λ t. g.H.Highlighter.lights c.args.highlighter.now t c.pos-pos.result) c.line-text.result.now (line_of b) c.line-text.ensures c.highlight.result c.highlight.new.out c.highlight.ensures (omega (arith, line-short b))
 
-pub invariant-of-self : goal.invariant-of-self
-invariant-of-self g c =
+pub invariant_of-self : goal.invariant_of-self
+invariant_of-self g c =
     let b = c.args.line.now in
     let n = c.unwrap-count.result in (
       answer-whole c.args.self.now (λ t. g.H.Highlighter.lights c.args.highlighter.now t c.pos-pos.result) c.line-text.result.now (line_of b) c.line-text.ensures c.highlight.result c.highlight.new.out c.highlight.ensures n c.unwrap-count.ensures c.highlight.auto.out,

@@ -8,15 +8,15 @@ use Rattle.render.proofs.renderer.PosixRenderer.push_lit_prompt.Goals as goal
 pub unwrap-count-requires : goal.unwrap-count-requires
 unwrap-count-requires g c =
     let p = c.args.prompt.now in
-    answer-some c.args.self.now (λ t. g.H.Highlighter.lights_prompt c.args.highlighter.now t true) c.styled-form.result.now (styled_of p) c.styled-form.ensures c.highlight-prompt.result c.highlight-prompt.new.out c.highlight-prompt.ensures (omega (arith, styled-short p))
+    answer-some c.args.self.now (λ t. g.H.Highlighter.lights_prompt c.args.highlighter.now t true) c.styled-form.result.now (styled_of p) c.styled-form.ensures c.highlight_prompt.result c.highlight_prompt.new.out c.highlight_prompt.ensures (omega (arith, styled-short p))
 
-pub invariant-of-self : goal.invariant-of-self
-invariant-of-self g c =
+pub invariant_of-self : goal.invariant_of-self
+invariant_of-self g c =
     let p = c.args.prompt.now in
     let n = c.unwrap-count.result in (
-      answer-whole c.args.self.now (λ t. g.H.Highlighter.lights_prompt c.args.highlighter.now t true) c.styled-form.result.now (styled_of p) c.styled-form.ensures c.highlight-prompt.result c.highlight-prompt.new.out c.highlight-prompt.ensures n c.unwrap-count.ensures c.highlight-prompt.auto.out,
+      answer-whole c.args.self.now (λ t. g.H.Highlighter.lights_prompt c.args.highlighter.now t true) c.styled-form.result.now (styled_of p) c.styled-form.ensures c.highlight_prompt.result c.highlight_prompt.new.out c.highlight_prompt.ensures n c.unwrap-count.ensures c.highlight_prompt.auto.out,
       (
-        answer-within c.args.self.now (λ t. g.H.Highlighter.lights_prompt c.args.highlighter.now t true) c.styled-form.result.now (styled_of p) c.styled-form.ensures c.highlight-prompt.result c.highlight-prompt.new.out c.highlight-prompt.ensures n c.unwrap-count.ensures c.highlight-prompt.auto.out,
+        answer-within c.args.self.now (λ t. g.H.Highlighter.lights_prompt c.args.highlighter.now t true) c.styled-form.result.now (styled_of p) c.styled-form.ensures c.highlight_prompt.result c.highlight_prompt.new.out c.highlight_prompt.ensures n c.unwrap-count.ensures c.highlight_prompt.auto.out,
         tt,
       ),
     )
@@ -27,4 +27,4 @@ returns g c =
     let h = c.args.highlighter.now in
     let n = c.unwrap-count.result in
     let short : (lit : List ℕ) → g.H.Highlighter.lights_prompt h (styled_of p) true lit → length lit ≤ 768 = λ lit a. omega (arith, (g.met.H.Highlighter.prompt_shown h (styled_of p) (chars (visible_of p)) lit true (styled-shows p) a).short, styled-short p) in
-    answer-appends c.args.self.now (λ t. g.H.Highlighter.lights_prompt h t true) c.styled-form.result.now (styled_of p) c.styled-form.ensures c.highlight-prompt.result c.highlight-prompt.new.out c.highlight-prompt.ensures n c.unwrap-count.ensures c.highlight-prompt.auto.out 768 short
+    answer-appends c.args.self.now (λ t. g.H.Highlighter.lights_prompt h t true) c.styled-form.result.now (styled_of p) c.styled-form.ensures c.highlight_prompt.result c.highlight_prompt.new.out c.highlight_prompt.ensures n c.unwrap-count.ensures c.highlight_prompt.auto.out 768 short

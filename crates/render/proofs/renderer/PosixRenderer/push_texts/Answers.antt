@@ -29,11 +29,11 @@ returns-in-Some c =
     (push-three before one two (composed c.push-in-Some.new.self) (raw_of c.args.prompt.now) (line_of c.args.line.now) (note_bytes (note_of c.args.note.now))
     (c.push.ensures ∙ ap (λ x. before ++ x) c.raw.ensures) (c.push-2.ensures ∙ ap (λ x. one ++ x) c.line.ensures) (c.push-in-Some.ensures ∙ ap (λ o. two ++ note_bytes o) c.in-Some.ensures))
 
-pub returns-in-default : goal.returns-in-default
-returns-in-default c =
+pub returns-in_default : goal.returns-in_default
+returns-in_default c =
     let before = composed c.args.self.now in
     let one = composed c.push.new.self in
     let two = composed c.push-2.new.self in
     plain-appends c.args.prompt.now c.args.line.now c.args.note.now before two
     (push-three before one two two (raw_of c.args.prompt.now) (line_of c.args.line.now) (note_bytes (note_of c.args.note.now))
-    (c.push.ensures ∙ ap (λ x. before ++ x) c.raw.ensures) (c.push-2.ensures ∙ ap (λ x. one ++ x) c.line.ensures) (sym (append-nil two) ∙ ap (λ o. two ++ note_bytes o) c.in-default.ensures))
+    (c.push.ensures ∙ ap (λ x. before ++ x) c.raw.ensures) (c.push-2.ensures ∙ ap (λ x. one ++ x) c.line.ensures) (sym (append-nil two) ∙ ap (λ o. two ++ note_bytes o) c.in_default.ensures))

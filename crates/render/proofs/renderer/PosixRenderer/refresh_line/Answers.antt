@@ -2,4 +2,4 @@ use Rattle.render.proofs.Drawings.{drew}
 use Rattle.render.proofs.renderer.PosixRenderer.refresh_line.Goals as goal
 
 pub returns : goal.returns
-returns g c = drew c.args.holds c.contents.result.now c.args.terminal.now c.write-synchronized.new.terminal c.write-synchronized.result c.compose-line.ensures c.contents.ensures c.write-synchronized.ensures
+returns g c = drew c.args.holds c.contents.result.now c.args.terminal.now c.write_synchronized.new.terminal c.write_synchronized.result c.compose_line.ensures c.contents.ensures c.write_synchronized.ensures

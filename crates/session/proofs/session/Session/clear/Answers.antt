@@ -8,8 +8,8 @@ use Rattle.session.proofs.session.Session.clear.Goals as goal
 
 pub returns-in-Ok : goal.returns-in-Ok
 returns-in-Ok g c =
-    subst (λ (o : Outcome). Acted (world_of g.T.Terminal.screen g.T.Terminal.extent g.T.Terminal.answered g.Widths.WidthTable.columns g.H.Highlighter.lights g.H.Highlighter.lights_prompt g.H.Highlighter.lights_hint g.H.Highlighter.heeds (g.N.Hinter.hints c.args.hinter.now)) (state_of c.args.terminal.now c.args.highlighter.now c.args.self.now c.args.tables.now) clear o (state_of c.clear-line.new.terminal c.clear-line.new.highlighter c.clear-line.new.self c.clear-line.new.tables)) (sym c.outcome-of.ensures)
-    (cleared-acted (world_of g.T.Terminal.screen g.T.Terminal.extent g.T.Terminal.answered g.Widths.WidthTable.columns g.H.Highlighter.lights g.H.Highlighter.lights_prompt g.H.Highlighter.lights_hint g.H.Highlighter.heeds (g.N.Hinter.hints c.args.hinter.now)) (state_of c.args.terminal.now c.args.highlighter.now c.args.self.now c.args.tables.now) (state_of c.clear-line.new.terminal c.clear-line.new.highlighter c.clear-line.new.self c.clear-line.new.tables) c.in-Ok.ends c.clear-line.result c.in-Ok.ensures c.clear-line.ensures)
+    subst (λ (o : Outcome). Acted (world_of g.T.Terminal.screen g.T.Terminal.extent g.T.Terminal.answered g.Widths.WidthTable.columns g.H.Highlighter.lights g.H.Highlighter.lights_prompt g.H.Highlighter.lights_hint g.H.Highlighter.heeds (g.N.Hinter.hints c.args.hinter.now)) (state_of c.args.terminal.now c.args.highlighter.now c.args.self.now c.args.tables.now) clear o (state_of c.clear_line.new.terminal c.clear_line.new.highlighter c.clear_line.new.self c.clear_line.new.tables)) (sym c.outcome_of.ensures)
+    (cleared-acted (world_of g.T.Terminal.screen g.T.Terminal.extent g.T.Terminal.answered g.Widths.WidthTable.columns g.H.Highlighter.lights g.H.Highlighter.lights_prompt g.H.Highlighter.lights_hint g.H.Highlighter.heeds (g.N.Hinter.hints c.args.hinter.now)) (state_of c.args.terminal.now c.args.highlighter.now c.args.self.now c.args.tables.now) (state_of c.clear_line.new.terminal c.clear_line.new.highlighter c.clear_line.new.self c.clear_line.new.tables) c.in-Ok.ends c.clear_line.result c.in-Ok.ensures c.clear_line.ensures)
 
 pub returns-in-Err : goal.returns-in-Err
 returns-in-Err g c = refused-acted (world_of g.T.Terminal.screen g.T.Terminal.extent g.T.Terminal.answered g.Widths.WidthTable.columns g.H.Highlighter.lights g.H.Highlighter.lights_prompt g.H.Highlighter.lights_hint g.H.Highlighter.heeds (g.N.Hinter.hints c.args.hinter.now)) (state_of c.args.terminal.now c.args.highlighter.now c.args.self.now c.args.tables.now) clear c.in-Err.refusal (λ s. c.in-Err.ensures.refuses s)

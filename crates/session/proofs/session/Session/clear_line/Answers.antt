@@ -10,5 +10,5 @@ returns g c = record {
   session = c.prepare-layout.new.self;
   tables = c.prepare-layout.new.tables;
   prepares = c.prepare-layout.ensures;
-  paints = subst (λ (b : Bool). DrawnCleared g.T.Terminal.answered (g.H.Highlighter.lights c.prepare-layout.new.highlighter) (g.H.Highlighter.lights_prompt c.prepare-layout.new.highlighter) (g.H.Highlighter.lights_hint c.prepare-layout.new.highlighter) b c.prepare-layout.result c.prepare-layout.new.self c.prepare-layout.new.tables c.args.terminal.now c.paint-cleared.result c.paint-cleared.new.self c.paint-cleared.new.tables c.paint-cleared.new.terminal) c.may-hold-release.ensures c.paint-cleared.ensures;
+  paints = subst (λ (b : Bool). DrawnCleared g.T.Terminal.answered (g.H.Highlighter.lights c.prepare-layout.new.highlighter) (g.H.Highlighter.lights_prompt c.prepare-layout.new.highlighter) (g.H.Highlighter.lights_hint c.prepare-layout.new.highlighter) b c.prepare-layout.result c.prepare-layout.new.self c.prepare-layout.new.tables c.args.terminal.now c.paint_cleared.result c.paint_cleared.new.self c.paint_cleared.new.tables c.paint_cleared.new.terminal) c.may_hold-release.ensures c.paint_cleared.ensures;
 }

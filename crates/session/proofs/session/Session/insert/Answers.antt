@@ -23,22 +23,22 @@ returns-in-Err-insert g c =
     (state_of c.args.terminal.now c.args.highlighter.now c.args.self.now c.args.tables.now)
     c.args.text.now c.args.count c.in-Ok.ends c.in-Ok.ensures c.in-Err-insert.refusal c.in-Err-insert.ensures.0)
 
-pub returns-then-writes-directly : goal.returns-then-writes-directly
-returns-then-writes-directly g c =
+pub returns-then-writes_directly : goal.returns-then-writes_directly
+returns-then-writes_directly g c =
     insert-direct (world_of g.T.Terminal.screen g.T.Terminal.extent g.T.Terminal.answered g.Widths.WidthTable.columns g.H.Highlighter.lights g.H.Highlighter.lights_prompt g.H.Highlighter.lights_hint g.H.Highlighter.heeds (g.N.Hinter.hints c.args.hinter.now))
     (state_of c.args.terminal.now c.args.highlighter.now c.args.self.now c.args.tables.now)
-    (state_of c.type-text.new.terminal c.prepare-layout.new.highlighter c.type-text.new.self c.prepare-layout.new.tables)
-    c.args.text.now c.args.count c.in-Ok.ends c.in-Ok.ensures c.insert.new.self c.in-default.ensures.1 c.prepare-layout.result c.prepare-layout.new.self c.prepare-layout.new.tables c.type-text.result c.prepare-layout.ensures
-    (record { session = c.type-text.ensures.session; prompt = refl; line = refl; note = refl; hint = refl }) (record { prompt = []; line = []; note = [] })
-    c.columns-of.result c.columns-of.ensures c.stays-in-row-in-row.result c.writes-directly.result c.stays-in-row-in-row.ensures c.writes-directly.ensures
-    c.if-writes-directly.true c.type-text.ensures.written c.outcome-of.result c.outcome-of.ensures
+    (state_of c.type_text.new.terminal c.prepare-layout.new.highlighter c.type_text.new.self c.prepare-layout.new.tables)
+    c.args.text.now c.args.count c.in-Ok.ends c.in-Ok.ensures c.insert.new.self c.in_default.ensures.1 c.prepare-layout.result c.prepare-layout.new.self c.prepare-layout.new.tables c.type_text.result c.prepare-layout.ensures
+    (record { session = c.type_text.ensures.session; prompt = refl; line = refl; note = refl; hint = refl }) (record { prompt = []; line = []; note = [] })
+    c.columns_of.result c.columns_of.ensures c.stays_in_row-in_row.result c.writes_directly.result c.stays_in_row-in_row.ensures c.writes_directly.ensures
+    c.if-writes_directly.true c.type_text.ensures.written c.outcome_of.result c.outcome_of.ensures
 
-pub returns-else-writes-directly : goal.returns-else-writes-directly
-returns-else-writes-directly g c =
+pub returns-else-writes_directly : goal.returns-else-writes_directly
+returns-else-writes_directly g c =
     insert-anew (world_of g.T.Terminal.screen g.T.Terminal.extent g.T.Terminal.answered g.Widths.WidthTable.columns g.H.Highlighter.lights g.H.Highlighter.lights_prompt g.H.Highlighter.lights_hint g.H.Highlighter.heeds (g.N.Hinter.hints c.args.hinter.now))
     (state_of c.args.terminal.now c.args.highlighter.now c.args.self.now c.args.tables.now)
     (state_of c.paint.new.terminal c.prepare-layout.new.highlighter c.paint.new.self c.paint.new.tables)
-    c.args.text.now c.args.count c.in-Ok.ends c.in-Ok.ensures c.insert.new.self c.in-default.ensures.1 c.prepare-layout.result c.prepare-layout.new.self c.prepare-layout.new.tables c.paint.result c.prepare-layout.ensures
+    c.args.text.now c.args.count c.in-Ok.ends c.in-Ok.ensures c.insert.new.self c.in_default.ensures.1 c.prepare-layout.result c.prepare-layout.new.self c.prepare-layout.new.tables c.paint.result c.prepare-layout.ensures
     (painted-left c.paint.ensures) c.paint.ensures.drew.styles
-    c.columns-of.result c.columns-of.ensures c.stays-in-row-in-row.result c.writes-directly.result c.stays-in-row-in-row.ensures c.writes-directly.ensures
-    c.if-writes-directly.false c.paint.ensures.drew.written c.paint.ensures.drew.styled c.outcome-of-else-writes-directly.result c.outcome-of-else-writes-directly.ensures
+    c.columns_of.result c.columns_of.ensures c.stays_in_row-in_row.result c.writes_directly.result c.stays_in_row-in_row.ensures c.writes_directly.ensures
+    c.if-writes_directly.false c.paint.ensures.drew.written c.paint.ensures.drew.styled c.outcome_of-else-writes_directly.result c.outcome_of-else-writes_directly.ensures

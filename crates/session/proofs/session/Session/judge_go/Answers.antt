@@ -2,4 +2,4 @@ use Rattle.session.proofs.Heights.{go-judged}
 use Rattle.session.proofs.session.Session.judge_go.Goals as goal
 
 pub returns : goal.returns
-returns g c = go-judged g.Widths.WidthTable.columns c.args.self.now c.args.tables.now (g.T.Terminal.extent c.args.terminal.now) c.check-height.result c.check-height.ensures c.in-ok-admit.ensures c.args.pos c.in-ok-check-pos.ensures
+returns g c = go-judged g.Widths.WidthTable.columns c.args.self.now c.args.tables.now (g.T.Terminal.extent c.args.terminal.now) c.check_height.result c.check_height.ensures c.in_ok-admit.ensures c.args.pos c.in_ok-check_pos.ensures

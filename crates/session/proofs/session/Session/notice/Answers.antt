@@ -10,5 +10,5 @@ returns-in-Err g c hints = refused-acted (world_of g.T.Terminal.screen g.T.Termi
 pub returns : goal.returns
 returns g c hints =
     notice-acted (world_of g.T.Terminal.screen g.T.Terminal.extent g.T.Terminal.answered g.Widths.WidthTable.columns g.H.Highlighter.lights g.H.Highlighter.lights_prompt g.H.Highlighter.lights_hint g.H.Highlighter.heeds hints) (state_of c.args.terminal.now c.args.highlighter.now c.args.self.now c.args.tables.now)
-    c.args.text.now c.in-Ok.ends c.hinted-layout-layout.result c.print-notice.result c.print-notice.new.terminal c.print-notice.new.self c.print-notice.new.tables
-    c.in-Ok.ensures c.hinted-layout-layout.ensures c.print-notice.ensures c.outcome-of.result c.outcome-of.ensures
+    c.args.text.now c.in-Ok.ends c.hinted_layout-layout.result c.print_notice.result c.print_notice.new.terminal c.print_notice.new.self c.print_notice.new.tables
+    c.in-Ok.ensures c.hinted_layout-layout.ensures c.print_notice.ensures c.outcome_of.result c.outcome_of.ensures

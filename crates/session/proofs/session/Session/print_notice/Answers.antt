@@ -6,10 +6,10 @@ use Rattle.session.proofs.session.Session.print_notice.Goals as goal
 
 pub returns-in-Ok : goal.returns-in-Ok
 returns-in-Ok g c =
-    noticed c.args.layout c.origin-self.result c.args.text.now c.args.self.now _ c.args.tables.now c.args.terminal.now c.print-notice-written.new.terminal c.print-notice-written.result c.copy-from.new.self c.print-notice-written.new.self
-    c.copy-from.ensures c.origin-self.ensures (sym (ap (λ (r : Result Unit BrokenAct). noticed_to c.args.layout c.origin-self.result c.args.self.now r) c.in-Ok.is)) c.print-notice-written.ensures
+    noticed c.args.layout c.origin-self.result c.args.text.now c.args.self.now _ c.args.tables.now c.args.terminal.now c.print_notice-written.new.terminal c.print_notice-written.result c.copy_from.new.self c.print_notice-written.new.self
+    c.copy_from.ensures c.origin-self.ensures (sym (ap (λ (r : Result Unit BrokenAct). noticed_to c.args.layout c.origin-self.result c.args.self.now r) c.in-Ok.is)) c.print_notice-written.ensures
 
 pub returns-in-Err : goal.returns-in-Err
 returns-in-Err g c =
-    noticed c.args.layout c.origin-self.result c.args.text.now c.args.self.now _ c.args.tables.now c.args.terminal.now c.print-notice-written.new.terminal c.print-notice-written.result c.copy-from.new.self c.print-notice-written.new.self
-    c.copy-from.ensures c.origin-self.ensures (sym (ap (λ (r : Result Unit BrokenAct). noticed_to c.args.layout c.origin-self.result c.args.self.now r) c.in-Err.is)) c.print-notice-written.ensures
+    noticed c.args.layout c.origin-self.result c.args.text.now c.args.self.now _ c.args.tables.now c.args.terminal.now c.print_notice-written.new.terminal c.print_notice-written.result c.copy_from.new.self c.print_notice-written.new.self
+    c.copy_from.ensures c.origin-self.ensures (sym (ap (λ (r : Result Unit BrokenAct). noticed_to c.args.layout c.origin-self.result c.args.self.now r) c.in-Err.is)) c.print_notice-written.ensures

@@ -24,5 +24,5 @@ returns g c =
     set-acted (world_of g.T.Terminal.screen g.T.Terminal.extent g.T.Terminal.answered g.Widths.WidthTable.columns g.H.Highlighter.lights g.H.Highlighter.lights_prompt g.H.Highlighter.lights_hint g.H.Highlighter.heeds (g.N.Hinter.hints c.args.hinter.now))
     (state_of c.args.terminal.now c.args.highlighter.now c.args.self.now c.args.tables.now)
     c.args.line.now c.args.pos c.in-Ok.ends c.in-Ok.ensures
-    (state_of c.refresh-line.new.terminal c.refresh-line.new.highlighter c.refresh-line.new.self c.refresh-line.new.tables)
-    c.refresh-line.result c.outcome-of.result c.outcome-of.ensures c.update.new.self c.in-default.ensures.1 c.refresh-line.ensures
+    (state_of c.refresh_line.new.terminal c.refresh_line.new.highlighter c.refresh_line.new.self c.refresh_line.new.tables)
+    c.refresh_line.result c.outcome_of.result c.outcome_of.ensures c.update.new.self c.in_default.ensures.1 c.refresh_line.ensures

@@ -7,7 +7,7 @@ use Rattle.session.proofs.session.Session.shift_cursor.Goals as goal
 
 pub returns-in-Ok : goal.returns-in-Ok
 returns-in-Ok g c = record {
-  written = subst (λ (p : Position). Written g.T.Terminal.answered c.args.terminal.now (move_bytes p.row p.col c.args.place.row c.args.place.col ∷ []) c.move-cursor-moved.result c.move-cursor-moved.new.terminal) c.cursor.ensures c.move-cursor-moved.ensures.written;
+  written = subst (λ (p : Position). Written g.T.Terminal.answered c.args.terminal.now (move_bytes p.row p.col c.args.place.row c.args.place.col ∷ []) c.move_cursor-moved.result c.move_cursor-moved.new.terminal) c.cursor.ensures c.move_cursor-moved.ensures.written;
   layout = c.follow-layout.result;
   follows = c.follow-layout.ensures;
   session = ap (drawn_to c.follow-layout.result c.args.self.now) (sym c.in-Ok.is);
@@ -19,7 +19,7 @@ returns-in-Ok g c = record {
 
 pub returns-in-Err : goal.returns-in-Err
 returns-in-Err g c = record {
-  written = subst (λ (p : Position). Written g.T.Terminal.answered c.args.terminal.now (move_bytes p.row p.col c.args.place.row c.args.place.col ∷ []) c.move-cursor-moved.result c.move-cursor-moved.new.terminal) c.cursor.ensures c.move-cursor-moved.ensures.written;
+  written = subst (λ (p : Position). Written g.T.Terminal.answered c.args.terminal.now (move_bytes p.row p.col c.args.place.row c.args.place.col ∷ []) c.move_cursor-moved.result c.move_cursor-moved.new.terminal) c.cursor.ensures c.move_cursor-moved.ensures.written;
   layout = c.follow-layout.result;
   follows = c.follow-layout.ensures;
   session = ap (drawn_to c.follow-layout.result c.args.self.now) (sym c.in-Err.is);

@@ -5,7 +5,7 @@ use Rattle.session.proofs.session.Session.start.Goals as goal
 
 pub returns-in-Ok : goal.returns-in-Ok
 returns-in-Ok g c setup fresh tabled =
-    drawn-created (world_of g.T.Terminal.screen g.T.Terminal.extent g.T.Terminal.answered g.Widths.WidthTable.columns g.H.Highlighter.lights g.H.Highlighter.lights_prompt g.H.Highlighter.lights_hint g.H.Highlighter.heeds (g.N.Hinter.hints c.args.hinter.now)) (state_of c.args.terminal.now c.args.highlighter.now c.args.self.now c.args.tables.now) setup fresh tabled (c.eq-same.ensures.0 c.if-not-same.false) c.in-Ok.ends c.in-Ok.ensures (state_of c.refresh-line.new.terminal c.refresh-line.new.highlighter c.refresh-line.new.self c.refresh-line.new.tables) c.refresh-line.result c.refresh-line.ensures c.outcome-of.result c.outcome-of.ensures
+    drawn-created (world_of g.T.Terminal.screen g.T.Terminal.extent g.T.Terminal.answered g.Widths.WidthTable.columns g.H.Highlighter.lights g.H.Highlighter.lights_prompt g.H.Highlighter.lights_hint g.H.Highlighter.heeds (g.N.Hinter.hints c.args.hinter.now)) (state_of c.args.terminal.now c.args.highlighter.now c.args.self.now c.args.tables.now) setup fresh tabled (c.eq-same.ensures.0 c.if-not-same.false) c.in-Ok.ends c.in-Ok.ensures (state_of c.refresh_line.new.terminal c.refresh_line.new.highlighter c.refresh_line.new.self c.refresh_line.new.tables) c.refresh_line.result c.refresh_line.ensures c.outcome_of.result c.outcome_of.ensures
 
 pub returns-in-Err : goal.returns-in-Err
 returns-in-Err g c setup fresh tabled = tall-created (world_of g.T.Terminal.screen g.T.Terminal.extent g.T.Terminal.answered g.Widths.WidthTable.columns g.H.Highlighter.lights g.H.Highlighter.lights_prompt g.H.Highlighter.lights_hint g.H.Highlighter.heeds (g.N.Hinter.hints c.args.hinter.now)) (state_of c.args.terminal.now c.args.highlighter.now c.args.self.now c.args.tables.now) setup fresh tabled (c.eq-same.ensures.0 c.if-not-same.false) c.in-Err.refusal c.in-Err.ensures
