@@ -46,6 +46,7 @@ def main(out, crates):
             made = set()
             for s in strings(value):
                 made.update(NAME.findall(s))
+            made.update(n[0].lower() + n[1:] for n in list(made) if re.match(r"(Then|Else|In)[-_]", n))
             by_plain = {}
             for name in sorted(made):
                 by_plain.setdefault(plain(name), set()).add(name)
@@ -66,6 +67,9 @@ def main(out, crates):
                         found = by_plain.get(plain(name[len(head):]))
                         if found and len(found) == 1:
                             return head + next(iter(found))
+                    parts = re.split(r"(-via-|\+)", name)
+                    if len(parts) > 1:
+                        return "".join(turned(NAME.match(p)) if NAME.match(p) and i % 2 == 0 else p for i, p in enumerate(parts))
                     for tail in ("-init", "-preserved", "-smaller", "-whole"):
                         if name.endswith(tail):
                             found = by_plain.get(plain(name[: -len(tail)]))

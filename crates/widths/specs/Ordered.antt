@@ -1,12 +1,13 @@
 -- What the order of the ranges gives. Assumes nothing.
 use Rattle.std.specs.Prelude.{◌≡◌, ℕ, zero, suc, ◌+◌, ◌<◌, ◌≤◌, Bool, true, false, cond, ◌&&◌, List, [], ◌∷◌, length, drop, nat_le, slice_index_or, refl}
 use Rattle.std.proofs.Common.{ap, ◌∙◌, not-suc-le-zero, le_of_suc-le-suc, arith}
-use Rattle.std.proofs.lemmas.Bool.{leb-true, le-leb, lt-leb, and_parts, and_from, and_right, cond-true, cond-false}
+use Rattle.std.proofs.lemmas.Bool.{leb-true, le-leb, lt-leb, and_parts, and_from, and_right, cond_both, cond-true, cond-false}
 use Rattle.std.proofs.lemmas.Bool.Decides.{nat_tests}
 use Rattle.std.proofs.lemmas.List.{drop_more}
 use Rattle.widths.specs.declared.ranges.WidthRange.{WidthRange}
 use Rattle.text.specs.Characters.{is_control}
-use Rattle.widths.specs.Widths.{range, ranges, listed, ascending}
+use Rattle.std.specs.List.{list_all}
+use Rattle.widths.specs.Widths.{range, ranges, listed, ascending, eastern}
 
 abbrev between : ℕ → ℕ → ℕ → Bool
 between low high b = nat_le low b && nat_le b high
@@ -51,3 +52,14 @@ module _ (rs : List WidthRange) (i c : ℕ) (d : WidthRange) (within : i < lengt
 
 pub control-zero : (c : ℕ) → is_control c ≡ true → listed ranges c ≡ 0
 control-zero c h = grind (arith, nat_tests)
+
+-- ranges of at most two columns give at most two
+narrow : (rs : List WidthRange) → list_all (λ (r : WidthRange). nat_le r.width 2) rs ≡ true → (c : ℕ) → listed rs c ≤ 2
+narrow [] h c = omega arith
+narrow (r ∷ rs) h c =
+    let a = and_parts (nat_le r.width 2) _ h in
+    cond_both (between r.first r.last c) r.width (listed rs c) (λ n. n ≤ 2) (λ _. leb-true r.width 2 a.0) (λ _. narrow rs a.1 c)
+
+-- the Eastern table gives at most two columns
+pub eastern-narrow : (c : ℕ) → eastern c ≤ 2
+eastern-narrow c = narrow ranges refl c

@@ -4,7 +4,7 @@ ghost use Rattle.std.proofs.Common.{ap, rules};
 ghost use Rattle.text.specs.Characters.{is_control};
 ghost use Rattle.widths.specs.Widths.{latin, eastern};
 ghost use Prim.Native.Nat;
-ghost use Rattle.widths.specs.Ordered.{control-zero};
+ghost use Rattle.widths.specs.Ordered.{control-zero, eastern-narrow};
 
 use crate::ranges::listed_width;
 
@@ -43,7 +43,7 @@ pub struct Eastern;
 impl WidthTable for Eastern {
     ghost columns = { eastern };
 
-    ghost narrow = { Prim.search rules };
+    ghost narrow = { eastern-narrow };
 
     ghost controls = { λ c h. control-zero c h };
 

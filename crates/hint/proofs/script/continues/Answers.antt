@@ -5,7 +5,7 @@ use Rattle.std.proofs.lemmas.Bool.Decides.{same_from_decides, Decides-at, Decide
 use Rattle.hint.specs.Scripts.{Continues, goes_on}
 use Rattle.hint.proofs.Captions.{goes-on-decides, checks-decides, refuses, continues-from, continues-boundary}
 use Rattle.hint.proofs.script.continues.Goals as goal
-use Rattle.hint.proofs.script.continues.Goals.{then-caption-line-via-then-caption-line, then-caption-line-via-else-caption-line+then-not-starts-with}
+use Rattle.hint.proofs.script.continues.Goals.{then-caption-line-via-then-caption-line, then-caption-line-via-else-caption-line+then-not-starts_with}
 
 pub returns-then-caption-line : goal.returns-then-caption-line
 returns-then-caption-line c =
@@ -14,7 +14,7 @@ returns-then-caption-line c =
     let none : Decides false (Continues line caption) =
     elim c.then-caption-line.branch [
       | then-caption-line-via-then-caption-line w ↦ refuses line caption (λ k. omega (arith, k.longer, w.if-caption-line.true))
-      | then-caption-line-via-else-caption-line+then-not-starts-with w ↦
+      | then-caption-line-via-else-caption-line+then-not-starts_with w ↦
           refuses line caption (λ k. both_ways w.starts_with.result w.if-not-starts_with.true ((slice_eq-Decides Decides-eqb line (take (length line) caption) w.starts_with.result w.starts_with.ensures.value).1 (sym k.begins)))
     ] in
     record { rule = none; value = same_from_decides false (goes_on line caption) none (goes-on-decides line caption) }

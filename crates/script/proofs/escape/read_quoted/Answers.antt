@@ -5,7 +5,7 @@ use Rattle.script.specs.declared.escape.Spot.TheVariants.{Plain}
 use Rattle.script.specs.Strings.{behind, read_from}
 use Rattle.script.proofs.Readings.{reading-goes, reading-gives, reading-closes, reading-fails, reading-ends}
 use Rattle.script.proofs.escape.read_quoted.Goals as goal
-use Rattle.script.proofs.escape.read_quoted.Goals.{in-Goes, in-Gives+else-is-err}
+use Rattle.script.proofs.escape.read_quoted.Goals.{in-Goes, in-Gives+else-is_err}
 
 pub returns-in-Closes : goal.returns-in-Closes
 returns-in-Closes c =
@@ -23,7 +23,7 @@ loop-i-preserved c =
       | in-Goes w ↦
           let next = reading-goes text c.loop-i.i c.loop-i.spot xs c.loop-i.invariant c.loop-i-test.true w.in-Goes.next (sym w.in-Goes.ensures) in
           subst (λ s. Next (vec_items c.match-step_of.bytes) s) (sym w.spot-is) (subst (λ v. Next (vec_items v) w.in-Goes.next) (sym w.bytes-is) next)
-      | in-Gives+else-is-err w ↦
+      | in-Gives+else-is_err w ↦
           let next = reading-gives text c.loop-i.i c.loop-i.spot xs c.loop-i.invariant c.loop-i-test.true w.in-Gives.value (sym w.in-Gives.ensures) in
           let pushed : vec_items w.push.new.self ≡ xs ++ w.in-Gives.value ∷ [] = w.push.ensures.items ∙ cond-true (is_ok w.push.result) _ _ (w.is_err.ensures.negation ∙ ap not w.if-is_err.false) in
           subst (λ s. Next (vec_items c.match-step_of.bytes) s) (sym w.spot-is) (subst (λ ys. Next ys Plain) (sym (ap vec_items w.bytes-is ∙ pushed)) next)
