@@ -3,8 +3,7 @@ ghost use Rattle.std.specs.Prelude.{◌≡◌, ◌≤◌, false, Decides, MatchR
 ghost use Rattle.terminal.specs.Limits.{proper};
 ghost use Rattle.std.specs.Ordering.{on, flip_args, eq_of_both};
 ghost use Rattle.std.specs.Cmp.Rules.{comparing};
-ghost use Rattle.std.proofs.Common.{rules, arith};
-ghost use Rattle.std.specs.Cmp as Keys;
+ghost use Rattle.std.proofs.Common.{rules};
 
 use text::refusal::Refusal;
 
@@ -47,13 +46,16 @@ impl Size {
 impl PartialEq for Size {
     ghost eq = { eq_of_both (flip_args (on (λ v. v.cols) nat_eq)) (flip_args (on (λ v. v.rows) nat_eq)) };
 
-    ghost laws = { Keys.partial_equiv_from_equiv (first_of (Prim.search (comparing, rules), Prim.grind (arith, Self.row.coded.inj))) };
+    ghost laws = { Prim.search (comparing, rules) };
 
-    fn eq(&self, other: &Size) -> bool {
+    fn eq(&self, other: &Size) -> bool
+        ensures value { result ≡ eq_of_both (flip_args (on (λ v. v.cols) nat_eq)) (flip_args (on (λ v. v.rows) nat_eq)) self.now other.now }
+        ensures same { Decides result (self.now ≡ other.now) }
+    {
         other.cols == self.cols && other.rows == self.rows
     }
 }
 
 impl Eq for Size {
-    ghost laws = { first_of (Prim.search (comparing, rules), Prim.grind (arith, Self.row.coded.inj)) };
+    ghost laws = { Prim.search (comparing, rules) };
 }
