@@ -1,5 +1,5 @@
 -- Forms of prompts, and what they show.
-use Rattle.std.proofs.Common.{◌≡◌, ℕ, ◌-◌, ◌≤◌, Bool, true, false, not, List, [], ◌∷◌, ◌++◌, length, take, Ok, Err, Decides, sym, ap, ◌∙◌, subst, ⊎_elim, arith, length-append}
+use Rattle.std.proofs.Common.{◌≡◌, ℕ, ◌-◌, ◌≤◌, Bool, true, false, not, List, [], ◌∷◌, ◌++◌, length, take, Ok, Err, Decides, nat_eq, refl, sym, ap, ◌∙◌, subst, ⊎_elim, arith, length-append}
 use lib.Utf8.{encode, encodes}
 use Rattle.lines.specs.Forms.{Form, PromptFine, Shown}
 use Rattle.page.proofs.Computing.{good-bytes, shows-as-decides}
@@ -8,7 +8,7 @@ use Rattle.page.specs.Computed.{good_bytes, shows_as}
 use Rattle.std.proofs.lemmas.Slice.Eq.{slice_eq-Decides}
 use Rattle.std.proofs.lemmas.Bool.{not-false, not-true}
 use Rattle.std.proofs.lemmas.Bool.Decides.{not_from_Decides, Decides-eqb}
-use Rattle.std.specs.Cmp.Lexicographic.{Matches}
+use Rattle.std.specs.Cmp.Lexicographic.{pointwise}
 use Rattle.std.specs.Str.{chars}
 use Rattle.text.proofs.Spelling.{spells-same}
 use Rattle.text.proofs.Styling.{styled-good, styled-same}
@@ -57,11 +57,12 @@ pub visible-good : (visible cs : List ℕ) → Spells visible cs → good_bytes 
 visible-good visible cs s = good-bytes visible (cs, s)
 
 -- what a comparison of two fronts tells
-pub fronts-differ : (table other : List ℕ) (m n : ℕ) (r : Bool) → ((k : Bool) × Matches (λ (a b : ℕ) (t : Bool). Decides t (a ≡ b)) (take (m - 0) table) (take (n - 0) other) k × (r ≡ not k)) → (r ≡ true → take m table ≡ take n other → ⊥) × (r ≡ false → take m table ≡ take n other)
-fronts-differ table other m n r (k, matches, is) =
+pub fronts-differ : (table other : List ℕ) (m n : ℕ) (r : Bool) → r ≡ not (pointwise nat_eq (take (m - 0) table) (take (n - 0) other)) → (r ≡ true → take m table ≡ take n other → ⊥) × (r ≡ false → take m table ≡ take n other)
+fronts-differ table other m n r is =
     let mine : take (m - 0) table ≡ take m table = ap (λ i. take i table) (omega arith) in
     let its : take (n - 0) other ≡ take n other = ap (λ i. take i other) (omega arith) in
-    let same = slice_eq-Decides Decides-eqb (take (m - 0) table) (take (n - 0) other) k matches in (
+    let k = pointwise nat_eq (take (m - 0) table) (take (n - 0) other) in
+    let same = slice_eq-Decides Decides-eqb (take (m - 0) table) (take (n - 0) other) k refl in (
       (λ e f. not_from_Decides k same (not-true k (sym is ∙ e)) (mine ∙ f ∙ sym its)),
       λ e. sym mine ∙ same.0 (not-false k (sym is ∙ e)) ∙ its,
     )

@@ -100,7 +100,7 @@ pub fn draw_caption<T: Terminal>(
     prompt: &[u8],
     caption: &[u8],
 ) -> Result<Preview, Rejection>
-    ensures { Previews T.Terminal.answered T.Terminal.screen (geometry Widths-as-WidthTable.columns (T.Terminal.extent terminal.old)) prompt.now caption.now terminal.old result terminal.new }
+    ensures { Previews T.Terminal.answered T.Terminal.screen (geometry T.Widths.WidthTable.columns (T.Terminal.extent terminal.old)) prompt.now caption.now terminal.old result terminal.new }
 {
     let size = terminal.size();
     match plan::<T::Widths>(size, prompt, caption) {
@@ -116,7 +116,7 @@ fn draw_planned<T: Terminal>(
     caption: &[u8],
     planned: Preview,
 ) -> Result<Preview, Rejection>
-    ensures { Draws T.Terminal.answered T.Terminal.screen (geometry Widths-as-WidthTable.columns (T.Terminal.extent terminal.old)) prompt.now caption.now planned terminal.old result terminal.new }
+    ensures { Draws T.Terminal.answered T.Terminal.screen (geometry T.Widths.WidthTable.columns (T.Terminal.extent terminal.old)) prompt.now caption.now planned terminal.old result terminal.new }
 {
     if let Err(write) = write_all(terminal, prompt) {
         return Err(Rejection::Broke(BrokenAct { number: 0, write }));

@@ -15,6 +15,6 @@ returns g c = (
   refl,
   record {
     writes = next c.in_default.ensures.ends (next c.in_default-write_all.ensures.ends done);
-    drawn = c.in_default-write_all.ensures.wrote ∙ (λ i. feed (geometry g.Widths.WidthTable.columns (c.in_default.ensures.fixed i)) c.args.caption.now (c.in_default.ensures.wrote i));
+    drawn = c.in_default-write_all.ensures.wrote ∙ (λ i. feed (geometry g.T.Widths.WidthTable.columns (c.in_default.ensures.fixed i)) c.args.caption.now (c.in_default.ensures.wrote i));
   },
 )

@@ -16,10 +16,13 @@ invariant_of-self c =
     let fine = inserted b t n rule.0 in
     let line = inserted-line b t c.put_in.new.buf n c.put_in.ensures in
     let within : b.len + n * length t ≤ 4096 = omega (arith, line-length b, rule.1) in
-    let inside : b.pos + n * length t ≤ b.len + n * length t = omega (arith, b.inside) in (
-      c.put_in.auto.buf ∙ b.whole,
-      (within, (ap good_bytes line ∙ fine.line, (inside, (front_at c.put_in.new.buf _ (b.len + n * length t) (b.pos + n * length t) line fine.line fine.place inside, tt)))),
-    )
+    let inside : b.pos + n * length t ≤ b.len + n * length t = omega (arith, b.inside) in record {
+      whole = c.put_in.auto.buf ∙ b.whole;
+      within = within;
+      good = ap good_bytes line ∙ fine.line;
+      inside = inside;
+      front = front_at c.put_in.new.buf _ (b.len + n * length t) (b.pos + n * length t) line fine.line fine.place inside;
+    }
 
 pub returns : goal.returns
 returns c =

@@ -9,4 +9,4 @@ invariant_of-self c =
     let b = c.args.self.now in
     let place = place-fine (line_of b) c.args.pos c.in_ok-check_pos.ensures in
     let inside : c.args.pos ≤ b.len = omega (arith, place.0, line-length b) in
-    (b.whole, (b.within, (b.good, (inside, (front_at b.buf (line_of b) b.len c.args.pos refl b.good place inside, tt)))))
+    record { whole = b.whole; within = b.within; good = b.good; inside = inside; front = front_at b.buf (line_of b) b.len c.args.pos refl b.good place inside }

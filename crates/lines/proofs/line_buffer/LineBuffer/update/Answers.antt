@@ -15,13 +15,13 @@ invariant_of-self c =
     let place = fine.2 in
     let copied = c.copy_from_slice.new.self in
     let same = c.copy_from_slice.ensures.after in
-    let front = written-front copied line _ same in (
-      written-length b.buf copied line same (omega (arith, b.whole, fine.1)) ∙ b.whole,
-      (
-        fine.1,
-        (ap good_bytes front ∙ good, (place.0, (front_at _ line (length line) c.args.pos front good place place.0, tt))),
-      ),
-    )
+    let front = written-front copied line _ same in record {
+      whole = written-length b.buf copied line same (omega (arith, b.whole, fine.1)) ∙ b.whole;
+      within = fine.1;
+      good = ap good_bytes front ∙ good;
+      inside = place.0;
+      front = front_at _ line (length line) c.args.pos front good place place.0;
+    }
 
 pub returns : goal.returns
 returns c =

@@ -12,7 +12,7 @@ pub invariant_of-self : goal.invariant_of-self
 invariant_of-self c =
     let text = c.in-Some.held.now in
     let fine = note-text c.args.other.now text (sym c.in-Some.ensures) in
-    (stores _ text (length text) (written-front c.copy_from_slice.new.self text _ c.copy_from_slice.ensures.after) fine.short fine.good, tt)
+    record { good = stores _ text (length text) (written-front c.copy_from_slice.new.self text _ c.copy_from_slice.ensures.after) fine.short fine.good }
 
 pub returns-in-Some : goal.returns-in-Some
 returns-in-Some c = ap Some (written-front c.copy_from_slice.new.self c.in-Some.held.now _ c.copy_from_slice.ensures.after) ∙ c.in-Some.ensures

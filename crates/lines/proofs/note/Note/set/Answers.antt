@@ -8,7 +8,7 @@ pub invariant_of-self : goal.invariant_of-self
 invariant_of-self c =
     let text = c.args.text.now in
     let fine = note-fine text c.in_ok-check.ensures in
-    (stores _ text (length text) (written-front c.copy_from_slice.new.self text _ c.copy_from_slice.ensures.after) fine.1 fine.0, tt)
+    record { good = stores _ text (length text) (written-front c.copy_from_slice.new.self text _ c.copy_from_slice.ensures.after) fine.1 fine.0 }
 
 pub returns : goal.returns
 returns c = (c.in_ok-check.ensures, ap Some (written-front c.copy_from_slice.new.self c.args.text.now _ c.copy_from_slice.ensures.after))

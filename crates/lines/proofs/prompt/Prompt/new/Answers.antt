@@ -23,16 +23,12 @@ invariant_of-result c =
     let its = c.in_ok-other_len.ensures in
     let same = (fronts-differ table other m n c.ne.result c.ne.ensures).1 c.if-ne.false in
     let spells = shown-spells raw table m mine in
-    let form = shown-same raw styled m n table other mine its same in (
-      (mine.form.short, its.form.short, mine.within),
-      (
-        ap (λ x. shows_as x (chars (take m table))) c.table.ensures ∙ shown-as raw (take m table) mine.characters mine.form spells,
-        (
-          ap (λ x. shows_as x (chars (take m table))) c.table-2.ensures ∙ shown-as styled (take m table) mine.characters form spells,
-          (visible-good (take m table) mine.characters spells, tt),
-        ),
-      ),
-    )
+    let form = shown-same raw styled m n table other mine its same in record {
+      within = (mine.form.short, its.form.short, mine.within);
+      plainly = ap (λ x. shows_as x (chars (take m table))) c.table.ensures ∙ shown-as raw (take m table) mine.characters mine.form spells;
+      coloured = ap (λ x. shows_as x (chars (take m table))) c.table-2.ensures ∙ shown-as styled (take m table) mine.characters form spells;
+      good = visible-good (take m table) mine.characters spells;
+    }
 
 pub returns : goal.returns
 returns c =
