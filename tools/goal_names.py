@@ -32,15 +32,28 @@ def plain(name):
     return name.replace("_", "-")
 
 
+def source_words(crate):
+    """The words of a crate's sources that have an underscore, by how an older kit wrote them."""
+    words = {}
+    for folder, _, files in os.walk(os.path.join("crates", crate, "src")):
+        for file in files:
+            with open(os.path.join(folder, file), encoding="utf-8") as f:
+                for word in re.findall(r"[A-Za-z_][A-Za-z0-9_]*", f.read()):
+                    if "_" in word:
+                        words[plain(word)] = word
+    return words
+
+
 def main(out, crates):
     for crate in crates or sorted(os.listdir(os.path.join(out, "crates"))):
         with open(os.path.join(out, "crates", crate, "names.json"), encoding="utf-8") as f:
             functions = json.load(f)
+        words = source_words(crate)
         for key, value in functions.items():
             head = f"Rattle-{crate}-proofs."
-            if not key.startswith(head) or not key.endswith(".Lts"):
+            if not key.startswith(head) or ".Lts" not in key:
                 continue
-            folder = os.path.join("crates", crate, "proofs", *key[len(head):-4].split("."))
+            folder = os.path.join("crates", crate, "proofs", *key[len(head):].split(".Lts")[0].split("."))
             if not os.path.isdir(folder):
                 continue
             made = set()
@@ -77,10 +90,14 @@ def main(out, crates):
                                 return next(iter(found)) + tail
                     return name
 
+                def field(m):
+                    return "." + words.get(m.group(1), m.group(1))
+
                 lines = []
                 for line in text.split("\n"):
                     keep = line.startswith("--") or (line.startswith("use ") and ".Goals" not in line and ".Given" not in line)
-                    lines.append(line if keep else NAME.sub(turned, line))
+                    line = line if keep else NAME.sub(turned, line)
+                    lines.append(line if keep else re.sub(r"(?<=[\w)'])\.(-?[A-Za-z][\w']*(?:-[\w']+)*)", field, line))
                 new = "\n".join(lines)
                 if new != text:
                     with open(path, "w", encoding="utf-8") as f:

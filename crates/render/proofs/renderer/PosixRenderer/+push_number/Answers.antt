@@ -6,8 +6,8 @@ use Rattle.std.proofs.lemmas.Fmt.{decimal_nonempty}
 use Rattle.render.proofs.renderer.PosixRenderer.+push_number.Goals as goal
 use Rattle.render.proofs.renderer.PosixRenderer.+push_number.Goals.{else-n-ge10, then-n-ge10}
 
-pub push-number-requires : goal.push-number-requires
-push-number-requires t c =
+pub push_number-requires : goal.push_number-requires
+push_number-requires t c =
     let small : c.args.n < 2 ^ 64 = omega arith in
     (omega arith, omega (arith, front_length c.args.n c.if-n-ge10.true small))
 
@@ -17,7 +17,7 @@ push-requires t c =
     let before = composed c.args.self.now in
     let small : n < 2 ^ 64 = omega arith in
     elim c.if-n-ge10.branch [
-      | then-n-ge10 w ↦ omega (arith, push-length (composed c.if-n-ge10.self) before (decimal (n / 10)) (ap composed w.self-is ∙ w.push-number.ensures), front_length n w.if-n-ge10.true small, c.requires)
+      | then-n-ge10 w ↦ omega (arith, push-length (composed c.if-n-ge10.self) before (decimal (n / 10)) (ap composed w.self-is ∙ w.push_number.ensures), front_length n w.if-n-ge10.true small, c.requires)
       | else-n-ge10 w ↦ omega (arith, ap (λ r. length (composed r)) w.self-is, decimal_nonempty n small, c.requires)
     ]
 
@@ -28,6 +28,6 @@ returns t c =
     let small : n < 2 ^ 64 = omega arith in
     c.push.ensures
     ∙ elim c.if-n-ge10.branch [
-      | then-n-ge10 w ↦ ap (λ x. x ++ ((48 + n % 10) ∷ [])) (ap composed w.self-is ∙ w.push-number.ensures) ∙ last-behind n w.if-n-ge10.true small before
+      | then-n-ge10 w ↦ ap (λ x. x ++ ((48 + n % 10) ∷ [])) (ap composed w.self-is ∙ w.push_number.ensures) ∙ last-behind n w.if-n-ge10.true small before
       | else-n-ge10 w ↦ ap (λ r. composed r ++ ((48 + n % 10) ∷ [])) w.self-is ∙ only-digit n w.if-n-ge10.false before
     ]

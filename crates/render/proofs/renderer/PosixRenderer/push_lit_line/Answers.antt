@@ -16,13 +16,10 @@ unwrap-count-requires g c =
 pub invariant_of-self : goal.invariant_of-self
 invariant_of-self g c =
     let b = c.args.line.now in
-    let n = c.unwrap-count.result in (
-      answer-whole c.args.self.now (λ t. g.H.Highlighter.lights c.args.highlighter.now t c.pos-pos.result) c.line-text.result.now (line_of b) c.line-text.ensures c.highlight.result c.highlight.new.out c.highlight.ensures n c.unwrap-count.ensures c.highlight.auto.out,
-      (
-        answer-within c.args.self.now (λ t. g.H.Highlighter.lights c.args.highlighter.now t c.pos-pos.result) c.line-text.result.now (line_of b) c.line-text.ensures c.highlight.result c.highlight.new.out c.highlight.ensures n c.unwrap-count.ensures c.highlight.auto.out,
-        tt,
-      ),
-    )
+    let n = c.unwrap-count.result in record {
+      whole = answer-whole c.args.self.now (λ t. g.H.Highlighter.lights c.args.highlighter.now t c.pos-pos.result) c.line-text.result.now (line_of b) c.line-text.ensures c.highlight.result c.highlight.new.out c.highlight.ensures n c.unwrap-count.ensures c.highlight.auto.out;
+      within = answer-within c.args.self.now (λ t. g.H.Highlighter.lights c.args.highlighter.now t c.pos-pos.result) c.line-text.result.now (line_of b) c.line-text.ensures c.highlight.result c.highlight.new.out c.highlight.ensures n c.unwrap-count.ensures c.highlight.auto.out;
+    }
 
 pub returns : goal.returns
 returns g c =

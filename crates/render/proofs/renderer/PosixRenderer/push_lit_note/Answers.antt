@@ -15,13 +15,10 @@ unwrap-count-requires g c =
 pub invariant_of-self : goal.invariant_of-self
 invariant_of-self g c =
     let t = c.in-Some.text.now in
-    let n = c.unwrap-count.result in (
-      answer-whole c.args.self.now (g.H.Highlighter.lights_hint c.args.highlighter.now) t t refl c.highlight_hint.result c.highlight_hint.new.out c.highlight_hint.ensures n c.unwrap-count.ensures c.highlight_hint.auto.out,
-      (
-        answer-within c.args.self.now (g.H.Highlighter.lights_hint c.args.highlighter.now) t t refl c.highlight_hint.result c.highlight_hint.new.out c.highlight_hint.ensures n c.unwrap-count.ensures c.highlight_hint.auto.out,
-        tt,
-      ),
-    )
+    let n = c.unwrap-count.result in record {
+      whole = answer-whole c.args.self.now (g.H.Highlighter.lights_hint c.args.highlighter.now) t t refl c.highlight_hint.result c.highlight_hint.new.out c.highlight_hint.ensures n c.unwrap-count.ensures c.highlight_hint.auto.out;
+      within = answer-within c.args.self.now (g.H.Highlighter.lights_hint c.args.highlighter.now) t t refl c.highlight_hint.result c.highlight_hint.new.out c.highlight_hint.ensures n c.unwrap-count.ensures c.highlight_hint.auto.out;
+    }
 
 pub returns : goal.returns
 returns g c =

@@ -13,13 +13,10 @@ unwrap-count-requires g c =
 pub invariant_of-self : goal.invariant_of-self
 invariant_of-self g c =
     let p = c.args.prompt.now in
-    let n = c.unwrap-count.result in (
-      answer-whole c.args.self.now (λ t. g.H.Highlighter.lights_prompt c.args.highlighter.now t true) c.styled-form.result.now (styled_of p) c.styled-form.ensures c.highlight_prompt.result c.highlight_prompt.new.out c.highlight_prompt.ensures n c.unwrap-count.ensures c.highlight_prompt.auto.out,
-      (
-        answer-within c.args.self.now (λ t. g.H.Highlighter.lights_prompt c.args.highlighter.now t true) c.styled-form.result.now (styled_of p) c.styled-form.ensures c.highlight_prompt.result c.highlight_prompt.new.out c.highlight_prompt.ensures n c.unwrap-count.ensures c.highlight_prompt.auto.out,
-        tt,
-      ),
-    )
+    let n = c.unwrap-count.result in record {
+      whole = answer-whole c.args.self.now (λ t. g.H.Highlighter.lights_prompt c.args.highlighter.now t true) c.styled-form.result.now (styled_of p) c.styled-form.ensures c.highlight_prompt.result c.highlight_prompt.new.out c.highlight_prompt.ensures n c.unwrap-count.ensures c.highlight_prompt.auto.out;
+      within = answer-within c.args.self.now (λ t. g.H.Highlighter.lights_prompt c.args.highlighter.now t true) c.styled-form.result.now (styled_of p) c.styled-form.ensures c.highlight_prompt.result c.highlight_prompt.new.out c.highlight_prompt.ensures n c.unwrap-count.ensures c.highlight_prompt.auto.out;
+    }
 
 pub returns : goal.returns
 returns g c =
