@@ -1,5 +1,4 @@
 // Why the program ends with status 1.
-use script::error::ScriptError;
 use std::alloc::{AllocError, AllocFailed};
 use std::{fmt, io};
 
@@ -8,7 +7,6 @@ pub(crate) enum Fault {
     // no command, or one that is unknown
     Command,
     UnknownOption(String),
-    UnknownRunOption(String),
     MissingValue(String),
     // an option's value, which is no number from 0 to 65,535
     Number(String, String),
@@ -17,25 +15,15 @@ pub(crate) enum Fault {
     Prompt,
     Memory,
     Input(io::Error),
-    // the report of an act cannot be printed
-    Report,
-    // what is wrong in a script of acts
-    Script(ScriptError),
 }
 
 impl fmt::Display for Fault {
     fn fmt<W: fmt::Write>(&self, f: &mut fmt::Formatter<W>) -> fmt::Result {
         match self {
-            Fault::Command => {
-                f.write_str("the command is `preview` or `run`; `caption --help` tells more")
-            }
+            Fault::Command => f.write_str("the command is `preview`; `caption --help` tells more"),
             Fault::UnknownOption(name) => write!(
                 f,
-                "unknown option `{name}`; `caption preview --help` lists them"
-            ),
-            Fault::UnknownRunOption(name) => write!(
-                f,
-                "unknown option `{name}`; `caption run` takes none but `--help`"
+                "unknown option `{name}`; `caption --help` lists them"
             ),
             Fault::MissingValue(name) => write!(f, "`{name}` needs a value"),
             Fault::Number(name, value) => write!(f, "`{name}` needs a number, not `{value}`"),
@@ -49,8 +37,6 @@ impl fmt::Display for Fault {
             ),
             Fault::Memory => f.write_str("out of memory"),
             Fault::Input(error) => write!(f, "{error}"),
-            Fault::Report => f.write_str("the report cannot be printed"),
-            Fault::Script(error) => write!(f, "{error}"),
         }
     }
 }

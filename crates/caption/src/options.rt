@@ -24,10 +24,7 @@ pub(crate) struct Options {
 #[derive(Drop)]
 pub(crate) enum Command {
     Help,
-    PreviewHelp,
-    RunHelp,
     Preview(Options),
-    Run,
 }
 
 // What has been read of the options.
@@ -147,14 +144,7 @@ pub(crate) fn read_command(rt: &HostRuntime) -> Result<Command, Fault> {
         "--help" => Ok(Command::Help),
         "preview" => match read_options(heap, args)? {
             Some(options) => Ok(Command::Preview(options)),
-            None => Ok(Command::PreviewHelp),
-        },
-        "run" => match args.next() {
-            None => Ok(Command::Run),
-            Some(option) => match option.as_str() {
-                "--help" => Ok(Command::RunHelp),
-                _ => Err(Fault::UnknownRunOption(option)),
-            },
+            None => Ok(Command::Help),
         },
         _ => Err(Fault::Command),
     }

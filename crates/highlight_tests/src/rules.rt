@@ -51,7 +51,7 @@ fn room(rt: HostRuntime) {
         PlainHighlighter.highlight_hint(b"abc", &mut large),
         Some(3)
     );
-    assert!(rt; &large[0..5] == b"abc\x07\x07");
+    assert!(rt; &large[0..5] == b"abc\x07\x07".as_slice());
 }
 
 #[test]
@@ -64,5 +64,5 @@ fn plain(rt: HostRuntime) {
         plain.highlight_prompt(b"\x1b[1m> ", true, &mut out),
         Some(6)
     );
-    assert!(rt; &out[0..6] == b"\x1b[1m> ");
+    assert!(rt; &out[0..6] == b"\x1b[1m> ".as_slice());
 }

@@ -27,7 +27,7 @@ fn changes(rt: HostRuntime) {
     assert!(rt; holds(&buffer, b"caf\xc3\xa9\xc3\xbc\xc3\xbc", b" noir"));
     assert!(rt; buffer.insert(b"x", 0).is_ok());
     assert!(rt; holds(&buffer, b"caf\xc3\xa9\xc3\xbc\xc3\xbc", b" noir"));
-    assert!(rt; buffer.line() == b"caf\xc3\xa9\xc3\xbc\xc3\xbc noir");
+    assert!(rt; buffer.line() == b"caf\xc3\xa9\xc3\xbc\xc3\xbc noir".as_slice());
 }
 
 // Bad text is refusal 3, a long line 4, a position past the line or inside a character 5; the buffer stays.

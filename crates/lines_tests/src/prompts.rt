@@ -16,9 +16,9 @@ fn refused(raw: &[u8], styled: &[u8]) -> bool {
 fn two_forms(rt: HostRuntime) -> Result<(), Fail> {
     match Prompt::new(b"> ", b"\x1b[1;32m>\x1b[0m ") {
         Ok(prompt) => {
-            assert!(rt; prompt.raw() == b"> ");
-            assert!(rt; prompt.styled() == b"\x1b[1;32m>\x1b[0m ");
-            assert!(rt; prompt.visible() == b"> ");
+            assert!(rt; prompt.raw() == b"> ".as_slice());
+            assert!(rt; prompt.styled() == b"\x1b[1;32m>\x1b[0m ".as_slice());
+            assert!(rt; prompt.visible() == b"> ".as_slice());
             Ok(())
         }
         Err(_) => {
@@ -35,7 +35,7 @@ fn copies(rt: HostRuntime) -> Result<(), Fail> {
         Ok(prompt) => {
             let table = [prompt; 2];
             assert!(rt; table[1].raw() == prompt.raw());
-            assert!(rt; table[1].visible() == b"> ");
+            assert!(rt; table[1].visible() == b"> ".as_slice());
             Ok(())
         }
         Err(_) => {

@@ -13,4 +13,3 @@ pub mod Quieting
 pub mod Lawful
 pub mod Chaining
 pub mod Computing
-pub mod Running

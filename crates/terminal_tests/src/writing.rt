@@ -51,7 +51,7 @@ fn full_record(rt: HostRuntime) -> Result<(), Fail> {
     assert!(rt; log.write(b"de") == WriteAnswer::Took(1));
     assert!(rt; log.write(b"e") == WriteAnswer::Down);
     assert!(rt; log.write(b"") == WriteAnswer::Took(0));
-    assert!(rt; log.bytes() == b"abcd");
+    assert!(rt; log.bytes() == b"abcd".as_slice());
     match write_all(&mut log, b"xy") {
         Ok(()) => Err(Fail::new("a full record took bytes")),
         Err(broken) => {
