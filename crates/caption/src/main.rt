@@ -1,4 +1,6 @@
 //! `caption`: prepared captions held against the screen that they will be typed on.
+#![tactic(auto)]
+
 mod captions;
 mod fault;
 mod help;

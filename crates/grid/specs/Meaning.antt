@@ -1,5 +1,5 @@
 -- The screen that a grid means. Assumes nothing.
-use Rattle.std.specs.Prelude.{◌≡◌, ℕ, ◌+◌, ◌-◌, ◌*◌, ◌/◌, cond, List, vec_items, nat_lt, slice_index_or}
+use Rattle.std.specs.Prelude.{◌≡◌, ℕ, ◌+◌, ◌*◌, ◌/◌, cond, List, vec_items, nat_lt, slice_index_or}
 use Rattle.screen.specs.Screen.{Screen, Geometry, Paper, blank_screen}
 use Rattle.screen.specs.declared.cells.Cell.{Cell}
 use Rattle.screen.specs.declared.cells.Cell.TheVariants.{Blank}

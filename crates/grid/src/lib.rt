@@ -1,4 +1,6 @@
 //! A terminal that keeps its screen in given cells.
+#![tactic(auto)]
+
 mod acting;
 mod cells;
 mod creating;

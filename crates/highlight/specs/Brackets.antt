@@ -1,5 +1,5 @@
 -- Round, square and curly brackets in a line of bytes, and where a bracket's partner stands. Assumes nothing.
-use Rattle.std.specs.Prelude.{◌≡◌, ℕ, zero, suc, ◌+◌, ◌-◌, ◌<◌, ◌≤◌, Bool, true, false, cond, ◌&&◌, ◌||◌, List, [], ◌∷◌, reverse, length, take, drop, Some, None, count_by, Option, ◌==◌, ◌≢◌, nat_eq, nat_le, nat_lt, slice_index, slice_index_or}
+use Rattle.std.specs.Prelude.{◌≡◌, ℕ, zero, suc, ◌+◌, ◌-◌, ◌<◌, ◌≤◌, Bool, true, false, cond, ◌&&◌, ◌||◌, List, reverse, length, take, drop, Some, None, count_by, Option, ◌==◌, ◌≢◌, nat_eq, nat_le, nat_lt, slice_index, slice_index_or}
 use Rattle.std.specs.Option.{option_map}
 use Rattle.highlight.specs.declared.brackets.Bracket.{Bracket}
 

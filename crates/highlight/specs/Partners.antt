@@ -1,5 +1,5 @@
 -- What is answered for a bracket is its partner. Assumes nothing.
-use Rattle.std.specs.Prelude.{◌≡◌, ℕ, zero, suc, ◌+◌, ◌-◌, ◌<◌, ◌≤◌, Bool, true, false, cond, ◌&&◌, ◌⊎◌, List, [], ◌∷◌, reverse, length, take, drop, Some, None, Option, ◌==◌, ◌≢◌, nat_le, nat_lt, slice_index, slice_index_or, refl}
+use Rattle.std.specs.Prelude.{◌≡◌, ℕ, zero, suc, ◌+◌, ◌-◌, ◌<◌, ◌≤◌, Bool, true, false, cond, ◌&&◌, ◌⊎◌, List, reverse, length, take, drop, Some, None, Option, ◌==◌, ◌≢◌, nat_le, nat_lt, slice_index, slice_index_or, refl}
 use Rattle.std.proofs.Common.{sym, ap, ◌∙◌, inl, inr, ⊎_elim, arith, add-one, length-drop}
 use Rattle.std.proofs.lemmas.Bool.{eqb-true, eqb-false, and_from, and_left, and_right, cond-true, cond-false, lt-ltb, le-ltb, le-leb, lt-leb, cases_Bool, cases_lt}
 use Rattle.std.proofs.lemmas.Bool.Decides.{nat_tests}
@@ -9,7 +9,7 @@ use Rattle.std.specs.Option.{option_map}
 use Rattle.highlight.specs.declared.brackets.Bracket.{Bracket}
 use Rattle.highlight.specs.Lighting.{to_light}
 use Rattle.highlight.specs.Balances.{length_back, get_or-back}
-use Rattle.highlight.specs.Brackets.{is_open, is_close, partner, count, balances, least, partner_index, partner_ahead, partner_before, matching, IsPartner, Partnered, Matched}
+use Rattle.highlight.specs.Brackets.{is_open, is_close, partner, count, balances, least, partner_index, partner_ahead, partner_before, matching, Partnered, Matched}
 
 -- what is known of the least number below n that passes
 abbrev LeastOf : (ℕ → Bool) → ℕ → Option ℕ → Type 0

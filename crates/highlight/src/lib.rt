@@ -1,4 +1,6 @@
 //! Highlighters: they answer styled texts that show the given text.
+#![tactic(auto)]
+
 mod answer;
 pub mod brackets;
 pub mod highlight;

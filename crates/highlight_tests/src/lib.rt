@@ -1,4 +1,6 @@
 //! Tests of the highlighters.
+#![tactic(auto)]
+
 #[cfg(test)]
 mod brackets;
 #[cfg(test)]

@@ -1,5 +1,5 @@
 -- A script of captions, one a line, and the hint that it has for a line. Assumes nothing.
-use Rattle.std.specs.Prelude.{◌≡◌, ℕ, ◌<◌, Bool, true, false, cond, not, ◌&&◌, ◌||◌, List, [], ◌∷◌, ◌++◌, length, take, drop, Some, None, Option, ◌==◌, nat_le, nat_lt}
+use Rattle.std.specs.Prelude.{◌≡◌, ℕ, ◌<◌, Bool, true, cond, not, ◌&&◌, ◌||◌, List, [], ◌∷◌, length, take, drop, Some, None, Option, ◌==◌, nat_le, nat_lt}
 use Rattle.std.proofs.Math.Utf8.{encodes, scalar}
 use Rattle.std.specs.Str.{chars, bytes_eq}
 use Rattle.text.specs.Characters.{is_control}

@@ -1,7 +1,7 @@
 -- From layouts to hints that a window holds.
-use Rattle.std.proofs.Common.{◌≡◌, ℕ, ◌<◌, ◌≤◌, ltb, List, [], ◌++◌, Some, None, Option, sym, refl, ◌∙◌, subst}
+use Rattle.std.proofs.Common.{◌≡◌, ℕ, ◌<◌, ◌≤◌, ltb, List, ◌++◌, Some, None, Option, sym, refl, subst}
 use Rattle.judging.proofs.Heights.{not_low}
-use Rattle.judging.specs.Fitting.{FitsHint, LaidOut, LaysLine}
+use Rattle.judging.specs.Fitting.{FitsHint, LaysLine}
 use Rattle.layout.specs.declared.block.Layout.{Layout}
 use Rattle.layout.specs.declared.layout.Position.{Position}
 use Rattle.lines.proofs.Notes.{note-text}

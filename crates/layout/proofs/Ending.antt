@@ -5,7 +5,7 @@ use Rattle.std.proofs.lemmas.Bool.Decides.{nat_tests}
 use Rattle.widths.specs.Clusters.{clusters}
 use Rattle.layout.specs.declared.layout.Position.{Position}
 use Rattle.layout.specs.declared.measure.Walk.{Walk}
-use Rattle.layout.specs.Measuring.{starting, walk_clusters, at_end, measured, in_range, has_room, Advances, Measures}
+use Rattle.layout.specs.Measuring.{starting, walk_clusters, at_end, in_range, has_room, Advances, Measures}
 
 -- a text that may be measured leaves room
 pub range-room : (cols tab len : ℕ) (origin : Position) → in_range cols tab origin ≡ true → len ≤ 4096 → has_room len tab (starting origin) ≡ true

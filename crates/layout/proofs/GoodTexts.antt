@@ -1,7 +1,6 @@
 -- A good text is measured character by character. Assumes nothing.
 use Rattle.std.proofs.Common.{◌≡◌, ℕ, ◌+◌, ◌≤◌, Bool, true, false, not, ◌&&◌, eqb, ltb, List, [], ◌∷◌, ◌++◌, length, IfSome, Some, Option, sym, refl, ap, ◌∙◌, subst, ⊎_elim, add-zero, arith}
-use lib.Utf8.{scalar, scalars}
-use Rattle.std.proofs.lemmas.Bool.{and_from, and_parts, not-true, cond-false, cond_both, both_ways, ne_eqb, le-leb, le-ltb, ltb-false}
+use Rattle.std.proofs.lemmas.Bool.{and_parts, not-true, cond-false, cond_both, both_ways, ne_eqb, le-leb, le-ltb, ltb-false}
 use Rattle.text.proofs.Spelling.{good-scalars}
 use Rattle.text.specs.Texts.{Spells}
 use Rattle.text.specs.Characters.{is_control, Good, AllGood}

@@ -1,4 +1,6 @@
 //! Where a text ends on rows of columns.
+#![tactic(auto)]
+
 pub mod block;
 pub mod layout;
 pub mod measure;

@@ -1,5 +1,5 @@
 -- Forms of prompts, and what they show.
-use Rattle.std.proofs.Common.{◌≡◌, ℕ, ◌-◌, ◌≤◌, Bool, true, false, not, List, [], ◌∷◌, ◌++◌, length, take, Ok, Err, Decides, nat_eq, refl, sym, ap, ◌∙◌, subst, ⊎_elim, arith, length-append}
+use Rattle.std.proofs.Common.{◌≡◌, ℕ, ◌-◌, ◌≤◌, Bool, true, false, not, List, length, take, Ok, Err, nat_eq, refl, sym, ap, ◌∙◌, subst, ⊎_elim, arith, length-append}
 use lib.Utf8.{encode, encodes}
 use Rattle.lines.specs.Forms.{Form, PromptFine, Shown}
 use Rattle.page.proofs.Computing.{good-bytes, shows-as-decides}
@@ -12,8 +12,7 @@ use Rattle.std.specs.Cmp.Lexicographic.{pointwise}
 use Rattle.std.specs.Str.{chars}
 use Rattle.text.proofs.Spelling.{spells-same}
 use Rattle.text.proofs.Styling.{styled-good, styled-same}
-use Rattle.text.specs.Characters.{AllGood}
-use Rattle.text.specs.Checks.{Copied, GivesVisible}
+use Rattle.text.specs.Checks.{GivesVisible}
 use Rattle.text.specs.Texts.{Spells, Styled, dyes, ends, shows, style}
 use Rattle.text.specs.declared.refusal.Refusal.{Refusal}
 

@@ -1,5 +1,5 @@
 -- What always holds of a note.
-use Rattle.std.proofs.Common.{◌≡◌, ℕ, ◌≤◌, true, ◌&&◌, leb, List, length, take, Some, None, Option, sym, refl, ap, ◌∙◌, subst, arith}
+use Rattle.std.proofs.Common.{◌≡◌, ℕ, ◌≤◌, true, leb, List, length, take, Some, None, Option, sym, refl, ap, ◌∙◌, subst, arith}
 use Rattle.hint.specs.Hints.{Hinted}
 use Rattle.lines.specs.Notes.{note_of}
 use Rattle.lines.specs.Stored.{stored, stores_good}

@@ -1,5 +1,5 @@
 -- What always holds of a prompt.
-use Rattle.std.proofs.Common.{ℕ, ◌≤◌, List, length, take, arith}
+use Rattle.std.proofs.Common.{◌≤◌, length, arith}
 use Rattle.lines.specs.Prompts.{raw_of, styled_of, visible_of}
 use Rattle.lines.specs.declared.prompt.Prompt.{Prompt}
 use Rattle.page.proofs.Computing.{good-text, shows-as-decides}

@@ -1,5 +1,5 @@
 -- A text put into another, by a fill behind it and a turn.
-use Rattle.std.proofs.Common.{◌≡◌, ℕ, zero, suc, ◌+◌, ◌-◌, ◌*◌, ◌≤◌, List, [], ◌∷◌, ◌++◌, length, take, drop, sym, refl, ap, ◌∙◌, subst, append_assoc, append-nil, suc-mul, add-one, arith, length-append}
+use Rattle.std.proofs.Common.{◌≡◌, ℕ, zero, suc, ◌+◌, ◌-◌, ◌*◌, ◌≤◌, List, ◌++◌, length, take, drop, sym, ap, ◌∙◌, append_assoc, append-nil, suc-mul, add-one, arith, length-append}
 use borrow.Rule.Slice.PartMut.{mid_of, post_of, put_mid}
 use Rattle.page.specs.Acts.{times}
 use Rattle.std.proofs.lemmas.List.{drop-append-le, drop_at, length-drop, length-take-le, take_at}

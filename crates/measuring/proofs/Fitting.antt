@@ -1,5 +1,5 @@
 -- The layout of prompt, line and note in a window. Assumes nothing.
-use Rattle.std.proofs.Common.{◌≡◌, ℕ, ◌+◌, ◌<◌, ◌≤◌, true, false, ◌&&◌, eqb, ltb, leb, List, [], ◌++◌, length, take, drop, Some, None, Option, sym, ap, ◌∙◌, subst, append_assoc, append-nil, le_trans, arith}
+use Rattle.std.proofs.Common.{◌≡◌, ℕ, ◌<◌, ◌≤◌, false, ◌&&◌, eqb, ltb, leb, List, [], ◌++◌, take, drop, Some, None, Option, sym, ap, ◌∙◌, subst, append_assoc, append-nil, le_trans, arith}
 use Rattle.layout.proofs.GoodTexts.{walk_place-append}
 use Rattle.layout.specs.Drawing.{walk_place}
 use Rattle.layout.specs.Laying.{Lays, ordered}
@@ -7,14 +7,14 @@ use Rattle.layout.specs.Measuring.{at_end}
 use Rattle.layout.specs.declared.block.Layout.{Layout}
 use Rattle.layout.specs.declared.layout.Position.{Position}
 use Rattle.measuring.proofs.Reaching.{some_same}
-use Rattle.measuring.specs.Measured.{Computes, EndsFor, LaysText, NoteFine, PromptAt, Walks}
+use Rattle.measuring.specs.Measured.{Computes, EndsFor, LaysText, PromptAt, Walks}
 use Rattle.measuring.specs.declared.measuring.LineEnds.{LineEnds}
 use Rattle.page.proofs.Spelt.{cut-decodes, good-cut, good-decodes}
 use Rattle.page.specs.Rules.{AtBoundary}
 use Rattle.screen.proofs.Counting.{block-place, draw-col, draw-spot}
 use Rattle.screen.proofs.Heights.{draw-append, place-col, place-draw}
-use Rattle.screen.specs.Places.{place_of, spot_of, top_left}
-use Rattle.screen.specs.Screen.{Geometry, Pen, blank_pen, block, draw_pen, full, place_col, place_row}
+use Rattle.screen.specs.Places.{place_of, top_left}
+use Rattle.screen.specs.Screen.{Geometry, Pen, blank_pen, block, full, place_col, place_row}
 use Rattle.std.proofs.lemmas.Bool.{and_parts, ltb-true}
 use Rattle.std.proofs.lemmas.Bool.Decides.{nat_tests}
 use Rattle.std.specs.Str.{chars}

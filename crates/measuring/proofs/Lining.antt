@@ -6,10 +6,9 @@ use Rattle.layout.specs.Drawing.{walk_place}
 use Rattle.layout.specs.declared.layout.Position.{Position}
 use Rattle.measuring.proofs.Reaching.{some-none, some_same}
 use Rattle.measuring.specs.Measured.{Inserts, Measures, PromptAt, Repeats, Walks}
-use Rattle.measuring.specs.declared.measuring.LineEnds.{LineEnds}
 use Rattle.page.proofs.Spelt.{cut-decodes, good-cut, good-times, insert-front, one-good}
 use Rattle.page.specs.Acts.{times}
-use Rattle.page.specs.Rules.{AtBoundary, OneCharacter}
+use Rattle.page.specs.Rules.{AtBoundary}
 use Rattle.screen.specs.Places.{top_left}
 use Rattle.std.proofs.lemmas.List.{take-append-drop, take_rest}
 use Rattle.std.proofs.lemmas.Str.{chars-append}

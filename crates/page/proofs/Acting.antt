@@ -13,7 +13,7 @@ use Rattle.screen.proofs.Inserting.{inserts-proof}
 use Rattle.screen.proofs.Heights.{block-blank, place-col, place-least}
 use Rattle.screen.proofs.Refreshing.{draw-page, over-under, view}
 use Rattle.screen.proofs.Shifting.{line-feed-is, moved-is}
-use Rattle.screen.specs.Bytes.{column, feed}
+use Rattle.screen.specs.Bytes.{feed}
 use Rattle.screen.specs.Laws.{Kept}
 use Rattle.screen.specs.Output.{clear_bytes, move_bytes}
 use Rattle.screen.specs.Pages.{OnScreen}

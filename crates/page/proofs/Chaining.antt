@@ -8,8 +8,6 @@ use Rattle.page.specs.Meaning.{Meant}
 use Rattle.page.specs.Rules.{Outcome}
 use Rattle.page.specs.Runs.{Continues, Holds, LawOfChains, Linked, Made, begins, closes}
 use Rattle.page.specs.declared.outcome.Rejection.TheVariants.{Broke, Refused}
-use Rattle.screen.specs.Bytes.{act}
-use Rattle.terminal.specs.Limits.{proper}
 use Rattle.terminal.specs.Windows.{Ready}
 use Rattle.text.specs.Texts.{Styled}
 use Rattle.text.specs.declared.refusal.Refusal.{Refusal}

@@ -10,7 +10,6 @@ use Rattle.screen.specs.Screen.{Geometry, Screen}
 use Rattle.std.proofs.lemmas.List.{take-append-le}
 use Rattle.screen.proofs.Sequences.{feed-append}
 use Rattle.terminal.proofs.Writes.{ends-fixed, ends-wrote}
-use Rattle.terminal.specs.Answers.{taken}
 use Rattle.terminal.specs.Windows.{geometry}
 use Rattle.terminal.specs.declared.size.Size.{Size}
 

@@ -29,7 +29,6 @@ use Rattle.screen.specs.Output.{clear_bytes, erase_bytes, move_bytes, release_by
 use Rattle.screen.specs.Screen.{Geometry, Screen, block}
 use Rattle.std.proofs.lemmas.Bool.{and_from, and_right, eqb-false}
 use Rattle.std.specs.Str.{chars}
-use Rattle.terminal.specs.Limits.{proper}
 use Rattle.terminal.specs.Windows.{Inside, Ready, geometry}
 use Rattle.text.proofs.Styling.{styled-append, styled-good}
 use Rattle.text.specs.Characters.{AllGood}

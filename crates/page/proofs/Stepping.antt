@@ -8,21 +8,20 @@ use Rattle.page.proofs.Inserting.{brought, direct_is, line-end, new-front, new-t
 use Rattle.page.proofs.Propriety.{fit}
 use Rattle.page.proofs.Showing.{Fit, Showing, drawn-page, erased-page, feed_all, feed_all-append}
 use Rattle.page.proofs.Spelt.{good-cut, styled-decodes}
-use Rattle.page.specs.Acts.{Replies, clear, edited, ends_line, gone, hinted, insert, noted, notice_text, page_after, printed, raised, settled, stays}
+use Rattle.page.specs.Acts.{Replies, edited, ends_line, gone, hinted, insert, noted, notice_text, page_after, printed, raised, settled, stays}
 use Rattle.page.specs.Output.{close_notice, direct, draw_page, erase_page, first_page, framed, let_go, move_page, redraw, styled_block}
 use Rattle.page.specs.Page.{Page, block_text, cursor_col, cursor_row, end_row}
 use Rattle.page.specs.Rules.{OneCharacter}
 use Rattle.screen.proofs.Erasing.{cut, stand}
 use Rattle.screen.proofs.Refreshing.{view}
 use Rattle.screen.proofs.Shifting.{let-go-is}
-use Rattle.screen.specs.Bytes.{at, feed, within}
+use Rattle.screen.specs.Bytes.{feed}
 use Rattle.screen.specs.Laws.{Kept}
 use Rattle.screen.specs.Output.{clear_bytes, hold_bytes, release_bytes}
 use Rattle.screen.specs.Screen.{Geometry, Screen, blank_paper, block, over}
 use Rattle.std.proofs.lemmas.Bool.{and_from, and_parts, eqb-true}
 use Rattle.std.specs.Str.{chars}
 use Rattle.screen.proofs.Sequences.{feed-append}
-use Rattle.terminal.specs.Limits.{proper}
 use Rattle.text.proofs.Spelling.{good-text-utf8}
 use Rattle.text.specs.Characters.{AllGood, is_control}
 use Rattle.text.specs.Texts.{GoodText, Styled}

@@ -6,7 +6,6 @@ use Rattle.page.specs.Page.{Page}
 use Rattle.page.specs.declared.outcome.Rejection.{Rejection}
 use Rattle.screen.specs.Screen.{Geometry, block, place_row}
 use Rattle.std.specs.Str.{chars}
-use Rattle.terminal.specs.declared.size.Size.{Size}
 use Rattle.text.specs.Characters.{Good}
 use Rattle.text.specs.Texts.{GoodText}
 use Rattle.text.specs.declared.refusal.Refusal.{Refusal}

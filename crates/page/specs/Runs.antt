@@ -4,7 +4,6 @@ use Rattle.page.specs.Acts.{Act, clear, create, finish, go, insert, message, not
 use Rattle.page.specs.Law.{Entry, Lived, Moment, Settings, Stepped, World}
 use Rattle.page.specs.Rules.{Outcome}
 use Rattle.page.specs.declared.outcome.Rejection.TheVariants.{Broke, Refused}
-use Rattle.screen.specs.Bytes.{act}
 use Rattle.terminal.specs.Windows.{Ready}
 
 -- an accepted finish is the last act of a session

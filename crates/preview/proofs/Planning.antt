@@ -10,14 +10,12 @@ use Rattle.screen.proofs.Counting.{block-place}
 use Rattle.screen.specs.Places.{place_of}
 use Rattle.screen.specs.Screen.{Geometry, block, place_row}
 use Rattle.std.specs.Str.{chars}
-use Rattle.terminal.specs.Recording.{room}
 use Rattle.terminal.specs.Windows.{geometry}
 use Rattle.terminal.specs.declared.size.Size.{Size}
 use Rattle.text.proofs.Spelling.{all-good-append}
 use Rattle.text.proofs.Styling.{styled-good, styled-same}
 use Rattle.text.specs.Checks.{Copied}
 use Rattle.text.specs.Texts.{GoodText, Spells, Styled}
-use Rattle.text.specs.declared.refusal.Refusal.{Refusal}
 use Rattle.text.specs.declared.refusal.Refusal.TheVariants.{Long, Tall, Text}
 use Rattle.text.specs.declared.refusal.Refusal.TheVariants as refusal
 

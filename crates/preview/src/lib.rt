@@ -1,2 +1,4 @@
 //! A prepared caption, held against the screen that it will be typed on.
+#![tactic(auto)]
+
 pub mod preview;

@@ -1,6 +1,6 @@
 -- What always holds of a renderer's buffer, and what a push leaves.
 use Rattle.std.proofs.Common.{◌≡◌, ℕ, ◌+◌, ◌-◌, ◌≤◌, List, ◌++◌, length, take, drop, ap, ◌∙◌, append_assoc, arith, length-append}
-use borrow.Rule.Slice.PartMut.{post_of, put_mid}
+use borrow.Rule.Slice.PartMut.{put_mid}
 use Rattle.render.specs.Composing.{composed}
 use Rattle.render.specs.declared.renderer.PosixRenderer.{PosixRenderer}
 use Rattle.std.proofs.lemmas.List.{length-drop, length-take-le}

@@ -1,5 +1,5 @@
 -- Drawings composed and written.
-use Rattle.std.proofs.Common.{◌≡◌, ℕ, ◌+◌, ◌≤◌, Bool, List, [], ◌∷◌, ◌++◌, length, take, drop, Option, Result, sym, ap, ◌∙◌, subst, arith}
+use Rattle.std.proofs.Common.{◌≡◌, ℕ, ◌≤◌, Bool, List, [], ◌∷◌, ◌++◌, length, take, drop, Option, Result, sym, ap, ◌∙◌, subst, arith}
 use Rattle.layout.specs.declared.block.Layout.{Layout}
 use Rattle.page.specs.Law.{Written}
 use Rattle.page.specs.Output.{framed}

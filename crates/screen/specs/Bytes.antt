@@ -1,5 +1,5 @@
 -- What a byte does to a screen: ECMA-48 with deferred wrap, and mode 2026. Assumes nothing.
-use Rattle.std.specs.Prelude.{ℕ, zero, suc, ◌+◌, ◌-◌, ◌*◌, min, max, Bool, true, false, cond, ◌&&◌, ◌||◌, List, [], ◌∷◌, ◌++◌, Some, None, Option, ◌==◌, nat_le, nat_lt}
+use Rattle.std.specs.Prelude.{ℕ, suc, ◌+◌, ◌-◌, ◌*◌, min, max, Bool, true, false, cond, ◌&&◌, ◌||◌, List, [], ◌∷◌, None, Option, ◌==◌, nat_le, nat_lt}
 use Rattle.screen.specs.declared.cells.Parser.{Parser}
 use Rattle.screen.specs.declared.cells.Parser.TheVariants.{Ground, Escape, Sequence, Character}
 use Rattle.screen.specs.declared.cells.Parameters.{Parameters}

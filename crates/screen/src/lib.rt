@@ -1,4 +1,6 @@
 //! What bytes do to a screen: definitions and laws.
+#![tactic(auto)]
+
 pub mod cells;
 
 ghost use Rattle.screen.specs.Laws.{AlwaysKept, Clears, Draws, Erases, Feeds, Moves, Style, Utf};

@@ -1,4 +1,6 @@
 //! Act scripts: how a terminal is set up, and what is done on it.
+#![tactic(auto)]
+
 pub mod act;
 pub mod error;
 pub mod escape;

@@ -1,11 +1,11 @@
 -- Bytes in portions, and what that gives of writes. Assumes nothing.
-use Rattle.std.specs.Prelude.{◌≡◌, ℕ, ◌+◌, ◌-◌, ◌<◌, ◌≤◌, min, ◌&&◌, List, [], ◌∷◌, ◌++◌, length, take, drop, ◌==◌, nat_lt, refl}
+use Rattle.std.specs.Prelude.{◌≡◌, ℕ, ◌+◌, ◌<◌, ◌≤◌, min, ◌&&◌, List, length, take, drop, ◌==◌, nat_lt}
 use Rattle.std.proofs.Common.{sym, ap, ◌∙◌, arith, ⊎_elim, length-take, take-take, take-add}
 use Rattle.std.proofs.lemmas.List.{take_all}
 use Rattle.std.proofs.lemmas.Bool.{cases_lt, cond_both, cond-false, and_right, ne_eqb}
 use Rattle.screen.proofs.Sequences.{feed-append}
 use Rattle.screen.specs.Screen.{Screen, Geometry}
-use Rattle.screen.specs.Bytes.{feed, step}
+use Rattle.screen.specs.Bytes.{feed}
 use Rattle.terminal.specs.Answers.{Worked, taken, answer_for}
 use Rattle.terminal.specs.declared.terminal.WriteAnswer.{WriteAnswer}
 use Rattle.terminal.specs.declared.terminal.WriteAnswer.TheVariants.{Took, Down}

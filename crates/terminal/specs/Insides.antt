@@ -5,7 +5,7 @@ use Rattle.std.proofs.Common.{arith}
 use Rattle.std.proofs.lemmas.Bool.{ltb-false, eqb-false, cond_both}
 use Rattle.text.specs.Characters.{is_control}
 use Rattle.screen.specs.Screen.{Screen, Geometry, Pen, Paper, put, put_pen, combine, takes, room, blank_screen}
-use Rattle.screen.specs.Bytes.{within, into, dropped, join_after, begin, at, column, move, inked, holding, act, finish, step_in, step, feed}
+use Rattle.screen.specs.Bytes.{within, into, dropped, join_after, begin, at, move, inked, holding, act, finish, step_in, step, feed}
 use Rattle.screen.specs.declared.cells.Parameters.{Parameters}
 use Rattle.screen.specs.declared.cells.Parameters.TheVariants.{Bare, Number, Numbers, Mode, Other}
 use Rattle.screen.specs.declared.cells.Parser.{Parser}

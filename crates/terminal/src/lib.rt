@@ -1,4 +1,6 @@
 //! A terminal by the screen that it means, and how bytes are written to one.
+#![tactic(auto)]
+
 pub mod pacer;
 pub mod record;
 pub mod recording;

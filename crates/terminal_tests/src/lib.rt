@@ -1,4 +1,6 @@
 //! Byte strings, and what the byte rules make of them.
+#![tactic(auto)]
+
 #[cfg(test)]
 mod damage;
 #[cfg(test)]

@@ -1,4 +1,6 @@
 //! Texts as bytes: UTF-8, controls, good texts, style sequences and visible text.
+#![tactic(auto)]
+
 pub mod decode;
 pub mod refusal;
 pub mod styled;

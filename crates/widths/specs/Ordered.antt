@@ -7,7 +7,7 @@ use Rattle.std.proofs.lemmas.List.{drop_more}
 use Rattle.widths.specs.declared.ranges.WidthRange.{WidthRange}
 use Rattle.text.specs.Characters.{is_control}
 use Rattle.std.specs.List.{list_all}
-use Rattle.widths.specs.Widths.{range, ranges, listed, ascending, eastern}
+use Rattle.widths.specs.Widths.{ranges, listed, ascending, eastern}
 
 abbrev between : ℕ → ℕ → ℕ → Bool
 between low high b = nat_le low b && nat_le b high

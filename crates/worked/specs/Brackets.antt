@@ -2,7 +2,6 @@
 use Rattle.std.specs.Prelude.{◌≡◌, ℕ, List, ◌∷◌, ◌++◌, Some, None, codes}
 use Rattle.highlight.specs.Brackets.{checked}
 use Rattle.highlight.specs.Lighting.{lit, to_light}
-use Rattle.highlight.specs.declared.brackets.Bracket.{Bracket}
 
 -- a line as it is drawn once a position in it was looked at
 abbrev pub lit_at : List ℕ → ℕ → List ℕ

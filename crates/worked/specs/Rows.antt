@@ -1,7 +1,6 @@
 -- What bytes do to wide characters and marks, on a blank screen of five columns with the Eastern table. Assumes nothing.
 use Rattle.std.specs.Prelude.{◌≡◌, ℕ, List, [], ◌∷◌, ◌++◌, map, Some, None, codes}
 use Rattle.std.proofs.Math.Utf8.{encode}
-use Rattle.layout.specs.declared.layout.Position.{Position}
 use Rattle.screen.specs.Bytes.{feed}
 use Rattle.screen.specs.Places.{spot_of}
 use Rattle.screen.specs.Screen.{Screen, blank_screen}

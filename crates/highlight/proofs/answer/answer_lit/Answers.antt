@@ -1,9 +1,9 @@
-use Rattle.std.proofs.Common.{◌≡◌, ℕ, ◌+◌, ◌-◌, ◌≤◌, List, [], ◌∷◌, ◌++◌, length, take, drop, codes, sym, ap, ◌∙◌, append_assoc, arith, length-drop, length-take}
+use Rattle.std.proofs.Common.{◌≡◌, ℕ, ◌+◌, ◌-◌, ◌≤◌, List, [], ◌∷◌, ◌++◌, length, take, drop, codes, sym, ◌∙◌, append_assoc, arith, length-take}
 use native.Mathlib.Nat.{sub-zero}
 use Rattle.std.proofs.lemmas.List.{take_rest}
 use Rattle.std.proofs.lemmas.Bool.{leb-true}
 use Rattle.text.specs.Texts.{style}
-use Rattle.highlight.proofs.Puts.{Front, front-none, front-more}
+use Rattle.highlight.proofs.Puts.{front-none, front-more}
 use Rattle.highlight.proofs.answer.answer_lit.Goals as goal
 
 -- five pieces in a row

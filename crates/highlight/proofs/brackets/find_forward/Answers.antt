@@ -1,7 +1,5 @@
-use Rattle.std.proofs.Common.{◌≡◌, ℕ, ◌+◌, ◌-◌, ◌<◌, ◌≤◌, length, take, drop, sym, refl, ap, ◌∙◌, arith, length-drop, length-take, rules}
-use Rattle.std.specs.Option.{option_map}
+use Rattle.std.proofs.Common.{◌+◌, refl, length-drop, length-take, rules}
 use Rattle.std.proofs.lemmas.List.{take_rest}
-use Rattle.highlight.specs.Brackets.{partner, partner_index}
 use Rattle.highlight.specs.Balances.{opening-apart, unmatched-bound, searching-all, other-more, own-more, partner-more, partner-found}
 use Rattle.highlight.proofs.brackets.find_forward.Goals as goal
 use Rattle.highlight.proofs.brackets.find_forward.Goals.{then-b-matching+else-unmatched-eq0, else-b-matching+then-b-bracket, else-b-matching+else-b-bracket}

@@ -1,4 +1,4 @@
-use Rattle.std.proofs.Common.{◌≡◌, sym, ◌∙◌, subst, arith}
+use Rattle.std.proofs.Common.{sym, ◌∙◌, subst, arith}
 use Rattle.highlight.specs.Brackets.{Matched}
 use Rattle.highlight.specs.Partners.{matching-ahead, matching-before, matched-is}
 use Rattle.highlight.proofs.brackets.find_matching_bracket.Goals as goal

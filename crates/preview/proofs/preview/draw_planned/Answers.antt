@@ -1,5 +1,5 @@
-use Rattle.std.proofs.Common.{◌≡◌, refl, ap, ◌∙◌, subst}
-use Rattle.page.specs.Law.{Written, done, next, later, broke}
+use Rattle.std.proofs.Common.{refl, ◌∙◌}
+use Rattle.page.specs.Law.{done, next, later, broke}
 use Rattle.terminal.specs.Windows.{geometry}
 use Rattle.screen.specs.Bytes.{feed}
 use Rattle.preview.proofs.preview.draw_planned.Goals as goal

@@ -1,4 +1,4 @@
-use Rattle.std.proofs.Common.{ℕ, ◌≤◌, sym, refl, ◌∙◌, le_trans}
+use Rattle.std.proofs.Common.{le_trans}
 use Rattle.preview.proofs.Ending.{no-first, no_second, at-end}
 use Rattle.preview.proofs.preview.end_of.Goals as goal
 

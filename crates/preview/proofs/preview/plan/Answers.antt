@@ -1,10 +1,10 @@
-use Rattle.std.proofs.Common.{◌≡◌, ℕ, ◌<◌, ◌≤◌, List, ◌++◌, length, sym, refl, ap, ◌∙◌, subst, arith}
+use Rattle.std.proofs.Common.{◌≡◌, ℕ, ◌<◌, ◌≤◌, List, ◌++◌, subst, arith}
 use Rattle.std.specs.Str.{chars}
 use Rattle.layout.specs.declared.layout.Position.{Position}
 use Rattle.screen.specs.Screen.{block}
 use Rattle.screen.specs.Places.{place_of}
 use Rattle.terminal.specs.Windows.{geometry}
-use Rattle.text.specs.Texts.{GoodText, Styled}
+use Rattle.text.specs.Texts.{Styled}
 use Rattle.preview.proofs.Planning.{end-some, end-place-is, fine-caption, refuses-tall, refuses-none}
 use Rattle.preview.proofs.preview.plan.Goals as goal
 

@@ -1,4 +1,4 @@
-use Rattle.std.proofs.Common.{◌≡◌, ◌+◌, ◌<◌, ◌≤◌, Bool, true, false, cond, [], ◌∷◌, length, Ok, Err, sym, ap, ◌∙◌, subst, arith}
+use Rattle.std.proofs.Common.{◌≡◌, ◌+◌, cond, [], ◌∷◌, Ok, Err, sym, ap, ◌∙◌, subst, arith}
 use Rattle.page.specs.Law.{Written}
 use Rattle.page.specs.Output.{framed}
 use Rattle.render.proofs.Writes.{byte-marks, framed-begin, framed-body, framed-end, marks-few, written-number}

@@ -1,4 +1,4 @@
-use Rattle.std.proofs.Common.{sym, ◌∙◌, arith, rules, below_more}
+use Rattle.std.proofs.Common.{sym, ◌∙◌, arith, below_more}
 use Rattle.script.proofs.fields.word_len.Goals as goal
 
 pub returns-then-is_blank : goal.returns-then-is_blank

@@ -1,4 +1,4 @@
-use Rattle.std.proofs.Common.{◌≡◌, ℕ, ◌<◌, List, length, Ok, Err, Result, sym, refl, subst, arith, lit<, length-drop}
+use Rattle.std.proofs.Common.{◌≡◌, ℕ, List, length, Ok, Err, Result, sym, refl, subst, arith, lit<, length-drop}
 use Rattle.terminal.specs.declared.terminal.WriteAnswer.TheVariants.{Took, Interrupted}
 use Rattle.terminal.specs.declared.writing.WriteFault.TheVariants as faults
 use Rattle.terminal.specs.declared.writing.BrokenWrite.{BrokenWrite}

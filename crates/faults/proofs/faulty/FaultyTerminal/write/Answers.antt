@@ -1,4 +1,4 @@
-use Rattle.std.proofs.Common.{◌≡◌, ◌+◌, ◌-◌, ◌≤◌, min, true, ◌++◌, length, take, is_ok, vec_items, vec_len, vec_capacity, sym, refl, ap, ◌∙◌, subst, append-nil, arith, length-take}
+use Rattle.std.proofs.Common.{◌≡◌, ◌-◌, ◌≤◌, true, ◌++◌, length, take, is_ok, vec_items, sym, refl, ap, ◌∙◌, subst, append-nil, arith, length-take}
 use Rattle.std.proofs.lemmas.Bool.{cond-true}
 use Rattle.terminal.specs.Answers.{taken}
 use Rattle.faults.specs.declared.fault.Course.TheVariants.{Pass, Answer}

@@ -1,4 +1,4 @@
-use Rattle.std.proofs.Common.{sym, rules}
+use Rattle.std.proofs.Common.{sym}
 use Rattle.highlight.specs.Partners.{to_light-stands}
 use Rattle.highlight.proofs.matching.MatchingBracketHighlighterHighlighter.highlight.Goals as goal
 

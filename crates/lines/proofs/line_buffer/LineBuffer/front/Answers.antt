@@ -1,4 +1,4 @@
-use Rattle.std.proofs.Common.{◌-◌, take, sym, ap, ◌∙◌, arith}
+use Rattle.std.proofs.Common.{take, sym, ap, ◌∙◌, arith}
 use Rattle.lines.proofs.Buffers.{line-front}
 use Rattle.lines.proofs.line_buffer.LineBuffer.front.Goals as goal
 

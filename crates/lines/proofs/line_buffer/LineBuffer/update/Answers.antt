@@ -1,4 +1,4 @@
-use Rattle.std.proofs.Common.{◌≤◌, length, refl, ap, ◌∙◌, arith}
+use Rattle.std.proofs.Common.{length, refl, ap, ◌∙◌, arith}
 use Rattle.lines.proofs.Buffers.{front_at}
 use Rattle.lines.proofs.Puts.{written-front, written-length}
 use Rattle.lines.proofs.Rules.{update-fine}

@@ -1,5 +1,4 @@
 use Rattle.lines.proofs.Characters.{one_found, one-longer, one_none}
-use Rattle.std.proofs.lemmas.Bool.{ne_eqb}
 use Rattle.lines.proofs.line_buffer.checking.is_one_character.Goals as goal
 
 pub returns-then-found-bytes : goal.returns-then-found-bytes

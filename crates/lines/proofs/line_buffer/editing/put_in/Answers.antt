@@ -1,7 +1,6 @@
-use Rattle.std.proofs.Common.{◌*◌, ◌++◌, length, take, drop, ap, ◌∙◌, arith}
+use Rattle.std.proofs.Common.{◌*◌, ◌++◌, length, take, drop, ap, ◌∙◌}
 use Rattle.lines.proofs.Puts.{put_in}
 use Rattle.page.proofs.Spelt.{length-times}
-use Rattle.page.specs.Acts.{times}
 use Rattle.lines.proofs.line_buffer.editing.put_in.Goals as goal
 
 pub returns : goal.returns

@@ -1,4 +1,4 @@
-use Rattle.std.proofs.Common.{◌≡◌, suc, ◌+◌, ◌*◌, ◌≤◌, length, sym, ap, ◌∙◌, mul-le-mul_right, suc-mul, arith, rules}
+use Rattle.std.proofs.Common.{◌≡◌, suc, ◌+◌, ◌*◌, ◌≤◌, length, sym, ap, ◌∙◌, mul-le-mul_right, suc-mul, arith}
 use Rattle.lines.proofs.Puts.{fill_more}
 use Rattle.page.specs.Acts.{times}
 use Rattle.std.proofs.lemmas.List.{take_all}

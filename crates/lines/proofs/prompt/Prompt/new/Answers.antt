@@ -1,6 +1,6 @@
-use Rattle.std.proofs.Common.{◌≡◌, length, take, refl, ap, ◌∙◌}
+use Rattle.std.proofs.Common.{take, refl, ap, ◌∙◌}
 use Rattle.lines.proofs.Forms.{fronts-differ, shown-apart, shown-as, shown-same, shown-spells, visible-good}
-use Rattle.page.specs.Computed.{good_bytes, shows_as}
+use Rattle.page.specs.Computed.{shows_as}
 use Rattle.std.specs.Str.{chars}
 use Rattle.lines.proofs.prompt.Prompt.new.Goals as goal
 

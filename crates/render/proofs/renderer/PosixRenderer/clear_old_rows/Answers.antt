@@ -1,4 +1,4 @@
-use Rattle.std.proofs.Common.{◌-◌, ◌<◌, ◌≤◌, ◌++◌, ap, ◌∙◌, arith}
+use Rattle.std.proofs.Common.{◌-◌, ◌≤◌, ◌++◌, ap, ◌∙◌, arith}
 use Rattle.render.proofs.Buffers.{push-length, push-push}
 use Rattle.render.proofs.Moves.{down-length}
 use Rattle.render.specs.Composing.{composed}

@@ -1,4 +1,4 @@
-use Rattle.std.proofs.Common.{List, arith}
+use Rattle.std.proofs.Common.{arith}
 use Rattle.render.proofs.Buffers.{composed-length}
 use Rattle.render.proofs.Drawings.{composes, first-length, texts-length}
 use Rattle.render.specs.Composing.{composed}

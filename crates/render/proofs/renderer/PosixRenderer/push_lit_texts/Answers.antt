@@ -1,6 +1,5 @@
 use Rattle.std.proofs.Common.{true, arith}
 use Rattle.lines.specs.Lines.{line_of}
-use Rattle.lines.specs.Notes.{note_of}
 use Rattle.lines.specs.Prompts.{styled_of}
 use Rattle.render.proofs.Styling.{appends-length, lit-appends}
 use Rattle.render.specs.Composing.{composed}

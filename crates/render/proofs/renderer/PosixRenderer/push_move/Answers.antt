@@ -1,4 +1,4 @@
-use Rattle.std.proofs.Common.{[], ◌∷◌, ◌++◌, length, decimal, arith, length-append}
+use Rattle.std.proofs.Common.{[], ◌∷◌, ◌++◌, decimal, arith, length-append}
 use Rattle.render.proofs.Buffers.{push-length, push-push}
 use Rattle.render.specs.Composing.{composed}
 use Rattle.render.proofs.renderer.PosixRenderer.push_move.Goals as goal

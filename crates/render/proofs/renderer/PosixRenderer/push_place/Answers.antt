@@ -1,4 +1,4 @@
-use Rattle.std.proofs.Common.{◌-◌, ◌<◌, ◌≤◌, ◌++◌, length, ap, ◌∙◌, arith}
+use Rattle.std.proofs.Common.{◌-◌, ◌≤◌, ◌++◌, ap, ◌∙◌, arith}
 use Rattle.render.proofs.Buffers.{push-length, push-three}
 use Rattle.render.proofs.Moves.{closing-length, column-length, up-length}
 use Rattle.render.specs.Composing.{composed}

@@ -1,4 +1,4 @@
-use Rattle.std.proofs.Common.{◌≡◌, ap, subst, arith}
+use Rattle.std.proofs.Common.{◌≡◌, subst, arith}
 use Rattle.render.proofs.Moves.{rows_end, rows_more, rows_none, rows-room, rows_behind}
 use Rattle.render.specs.Composing.{composed}
 use Rattle.render.proofs.renderer.PosixRenderer.push_rows_up.Goals as goal
