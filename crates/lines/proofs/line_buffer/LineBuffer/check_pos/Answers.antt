@@ -5,10 +5,10 @@ use Rattle.lines.proofs.line_buffer.LineBuffer.check_pos.Goals as goal
 
 pub returns-then-not-is_boundary : goal.returns-then-not-is_boundary
 returns-then-not-is_boundary c =
-    let place = place-decides c.args.self.now c.line.result.now c.args.pos c.is_boundary.result c.line.ensures c.is_boundary.ensures.characters in
+    let place = place-decides c.args.self.now _ c.args.pos c.is_boundary.result (cc) c.is_boundary.ensures.characters in
     inl (not_from_Decides c.is_boundary.result place c.if-not-is_boundary.true, refl)
 
 pub returns : goal.returns
 returns c =
-    let place = place-decides c.args.self.now c.line.result.now c.args.pos c.is_boundary.result c.line.ensures c.is_boundary.ensures.characters in
+    let place = place-decides c.args.self.now _ c.args.pos c.is_boundary.result (cc) c.is_boundary.ensures.characters in
     inr (place.0 c.if-not-is_boundary.false, refl)
