@@ -1,6 +1,7 @@
 pub mod Page
 pub mod Acts
 pub mod Output
+pub mod Outcomes
 pub mod Rules
 pub mod Law
 pub mod Meaning
