@@ -7,6 +7,7 @@ ghost use Prim.Native.Nat;
 ghost use Rattle.widths.specs.Ordered.{control-zero, eastern-narrow};
 
 use crate::ranges::listed_width;
+use std::str::FromStr;
 
 // A width table gives each character 0, 1 or 2 columns, always the same, and 0 to controls.
 pub trait WidthTable {
@@ -49,5 +50,32 @@ impl WidthTable for Eastern {
 
     fn width(c: char) -> u8 {
         listed_width(c)
+    }
+}
+
+// The tables, as a setting names them.
+#[derive(Clone, Copy, PartialEq, Eq, Debug)]
+pub enum Table {
+    Latin,
+    Eastern,
+}
+
+// A word that names no table.
+#[derive(Clone, Copy, PartialEq, Eq, Debug)]
+pub struct UnknownTable;
+
+impl FromStr for Table {
+    ghost use Rattle.widths.specs.Tables.{NamesTable};
+
+    type Err = UnknownTable;
+
+    ghost from_str_gives = { NamesTable };
+
+    fn from_str(name: &str) -> Result<Table, UnknownTable> {
+        match name {
+            "latin" => Ok(Table::Latin),
+            "eastern" => Ok(Table::Eastern),
+            _ => Err(UnknownTable),
+        }
     }
 }
