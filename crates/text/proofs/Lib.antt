@@ -1,4 +1,5 @@
 pub mod Decodes
+mod LineEnds
 pub mod Spelling
 pub mod Styling
 mod Runs

@@ -1,5 +1,5 @@
 -- Good styled texts: what each shows, put together and taken apart. Assumes nothing.
-use Rattle.std.proofs.Common.{◌≡◌, ℕ, ◌<◌, true, false, List, [], ◌∷◌, ◌++◌, length, get_or, sym, refl, ap, ◌∙◌, subst, true≢false, append_assoc, arith}
+use Rattle.std.proofs.Common.{◌≡◌, ℕ, ◌<◌, ◌≤◌, true, false, List, [], ◌∷◌, ◌++◌, length, get_or, sym, refl, ap, ◌∙◌, subst, true≢false, append_assoc, arith, length-append}
 use lib.Utf8.{encode, encodes}
 use Rattle.std.proofs.lemmas.Bool.{and_parts}
 use Rattle.std.proofs.lemmas.Str.{encode_same, char_from_byte}
@@ -124,3 +124,9 @@ styled-same (shows c {bs = bs} {cs = cs} g s) t =
     let k = (styled-char t c bs refl (good-not-esc c g)).1 in
     ap (λ l. c ∷ l) (styled-same s k.2) ∙ sym k.1
 styled-same (dyes ps {bs = bs} h s) t = styled-same s (styled-style t ps bs h refl)
+
+-- what a styled text shows is no longer than the text
+pub styled-longer : {bs cs : List ℕ} → Styled bs cs → length (encodes cs) ≤ length bs
+styled-longer ends = omega arith
+styled-longer (shows c {bs = bs} {cs = cs} g s) = omega (arith, styled-longer s, length-append (encode c) bs, length-append (encode c) (encodes cs))
+styled-longer (dyes ps {bs = bs} h s) = omega (arith, styled-longer s, length-append (style ps) bs)

@@ -1,18 +1,21 @@
 -- A walk over a text, piece by piece. Assumes nothing.
-use Rattle.std.proofs.Common.{◌≡◌, ℕ, ◌+◌, ◌-◌, ◌<◌, ◌≤◌, List, [], ◌∷◌, ◌++◌, length, get_or, take, drop, Some, None, sym, refl, ap, ◌∙◌, subst, ⊎_elim, append-nil, add-zero, arith, length-append, length-drop, take-append-drop, take-add}
+use Rattle.std.proofs.Common.{◌≡◌, ℕ, ◌+◌, ◌-◌, ◌<◌, ◌≤◌, List, [], ◌∷◌, ◌++◌, length, get_or, take, drop, Some, None, Ok, Err, Result, sym, refl, ap, ◌∙◌, subst, ⊎_elim, append-nil, add-zero, arith, length-append, length-drop, take-append-drop, take-add}
 use borrow.Rule.Slice.PartMut.{put_mid}
 use lib.Utf8.{encode, encodes}
 use Rattle.std.proofs.lemmas.List.{take_all, take_at, drop-drop, get_or-drop}
 use Rattle.std.proofs.lemmas.Slice.{take-put_mid, drop-put_mid}
 use Rattle.std.proofs.lemmas.Bool.{cases_lt}
 use Rattle.std.proofs.lemmas.Str.{encodes-append, length-encode, len_utf8_bounds}
-use Rattle.text.specs.Checks.{Copied}
+use Rattle.text.specs.Checks.{Copied, GivesVisible, ShowsPrompt}
 use Rattle.text.specs.Pieces.{GoodFront, StyleFront, PieceFront, NextPiece, VisibleFits}
 use Rattle.text.specs.Texts.{GoodText, style, Styled, ends, shows, dyes, StyledText}
 use Rattle.text.specs.declared.decode.Decoded.{Decoded}
+use Rattle.std.specs.Result.{result_or}
+use Rattle.text.specs.declared.refusal.Refusal.{Refusal}
+use Rattle.text.specs.declared.refusal.Refusal.TheVariants.{Prompt}
 use Rattle.text.specs.declared.styled.Piece.{Piece}
 use Rattle.text.proofs.Spelling.{good-not-esc, spells-char, good-text-append, good-text-begins, good-text-past}
-use Rattle.text.proofs.Styling.{styled-append, styled-same, styled-char, styled-style, styled-esc, styled-other}
+use Rattle.text.proofs.Styling.{styled-append, styled-same, styled-char, styled-style, styled-esc, styled-other, styled-longer}
 
 -- a piece at the front
 pub piece-style : (bs : List ℕ) (n : ℕ) → StyleFront bs (Some n) → PieceFront bs (record { len = n; shown = 0 })
@@ -156,3 +159,8 @@ copied_all {bs} {i = i} {n = n} c s f =
     let w = c.walked in
     let h : length bs ≤ i = ⊎_elim (λ l. absurd (styled-stuck bs i n w f l s)) (λ l. l) (cases_lt i (length bs)) in
     record { characters = w.characters; styled = styled-all bs i n w h; count = w.shown; written = c.written; kept = c.kept }
+
+-- a visible text with the refusals of a prompt
+pub prompt-shown : (max : ℕ) (bs old new : List ℕ) (r : Result ℕ Refusal) → length bs ≤ max → length old ≡ max → GivesVisible bs old new r → ShowsPrompt max bs old new (result_or r (Err Prompt))
+prompt-shown max bs old new (Ok n) h e k = (h, omega (arith, k.count, styled-longer k.styled), k)
+prompt-shown max bs old new (Err f) h e k = (refl, k.0, λ l s. ⊎_elim (λ n. n.1 s) (λ n. omega (arith, n.1.2, styled-longer n.1.1)) k.1)

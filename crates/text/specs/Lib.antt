@@ -5,3 +5,4 @@ pub mod Continuations
 pub mod Pieces
 pub mod Checks
 pub mod Refusals
+pub mod Lines

@@ -1,5 +1,5 @@
 -- The refusals that rest on the input alone, with their numbers and words. Assumes nothing.
-use Rattle.std.specs.Prelude.{ℕ, List, codes}
+use Rattle.std.specs.Prelude.{ℕ, List, ◌∷◌, ◌++◌, codes, decimal}
 use Rattle.text.specs.declared.refusal.Refusal.{Refusal}
 use Rattle.text.specs.declared.refusal.Refusal.TheVariants.{Size, Prompt, Text, Long, Place, Tall, Torn}
 
@@ -20,3 +20,7 @@ refusal_word Long = codes "long"
 refusal_word Place = codes "place"
 refusal_word Tall = codes "tall"
 refusal_word Torn = codes "torn"
+
+-- the number, a space and the word
+abbrev pub refusal_text : Refusal → List ℕ
+refusal_text r = decimal (refusal_number r) ++ 32 ∷ refusal_word r

@@ -2,6 +2,7 @@
 #![tactic(auto)]
 
 pub mod decode;
+pub mod lines;
 pub mod refusal;
 pub mod styled;
 pub mod texts;

@@ -1,8 +1,10 @@
 // Why an input is refused.
-ghost use Rattle.std.specs.Prelude.{◌≡◌};
-ghost use Rattle.text.specs.Refusals.{refusal_number, refusal_word};
+ghost use Rattle.std.specs.Prelude.{◌≡◌, Some};
+ghost use Rattle.text.specs.Refusals.{refusal_number, refusal_word, refusal_text};
 
-#[derive(Clone, Copy, PartialEq, Eq)]
+use std::fmt;
+
+#[derive(Clone, Copy, Debug, PartialEq, Eq)]
 pub enum Refusal {
     // the size of a terminal, a tab stop or an origin is out of range
     Size,
@@ -25,15 +27,7 @@ impl Refusal {
     pub fn number(self) -> u8
         ensures { result ≡ refusal_number self }
     {
-        match self {
-            Refusal::Size => 1,
-            Refusal::Prompt => 2,
-            Refusal::Text => 3,
-            Refusal::Long => 4,
-            Refusal::Place => 5,
-            Refusal::Tall => 6,
-            Refusal::Torn => 7,
-        }
+        u8::from(self)
     }
 
     // The refusal's word.
@@ -49,5 +43,31 @@ impl Refusal {
             Refusal::Tall => "tall",
             Refusal::Torn => "torn",
         }
+    }
+}
+
+// The refusal's number, 1 to 7.
+impl From<Refusal> for u8 {
+    ghost from_gives = { λ refusal number. number ≡ refusal_number refusal };
+
+    fn from(refusal: Refusal) -> u8 {
+        match refusal {
+            Refusal::Size => 1,
+            Refusal::Prompt => 2,
+            Refusal::Text => 3,
+            Refusal::Long => 4,
+            Refusal::Place => 5,
+            Refusal::Tall => 6,
+            Refusal::Torn => 7,
+        }
+    }
+}
+
+// The number and the word, as in `3 text`.
+impl fmt::Display for Refusal {
+    ghost output = { λ refusal. Some (refusal_text refusal) };
+
+    fn fmt<W: fmt::Write>(&self, f: &mut fmt::Formatter<W>) -> fmt::Result {
+        write!(f, "{} {}", u8::from(*self), self.word())
     }
 }

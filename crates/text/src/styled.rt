@@ -1,6 +1,6 @@
 // Good styled texts: good characters, with style sequences between them.
 ghost use Rattle.std.specs.Prelude.{◌≡◌, ◌<◌, ◌≤◌, length, drop, slice_index};
-ghost use Rattle.text.specs.Checks.{ChecksStyled, Copied, GivesVisible};
+ghost use Rattle.text.specs.Checks.{ChecksStyled, Copied, GivesVisible, ShowsPrompt};
 ghost use Rattle.text.specs.Pieces.{NextPiece, PlainRun, StyleFront, StyledRun, VisibleFits};
 ghost use Rattle.text.specs.Texts.{is_plain};
 
@@ -38,6 +38,16 @@ pub fn visible_text(bytes: &[u8], out: &mut [u8]) -> Result<usize, Refusal>
         return Err(Refusal::Long);
     }
     Ok(copy_visible(bytes, out))
+}
+
+// Writes the visible text of a prompt to the front of `out`, and gives its length. A prompt is a good styled text that is no longer than `out`.
+pub fn visible_prompt<const N: usize>(form: &[u8], out: &mut [u8; N]) -> Result<usize, Refusal>
+    ensures { ShowsPrompt N form.now out.old out.new result }
+{
+    if form.len() > N {
+        return Err(Refusal::Prompt);
+    }
+    visible_text(form, out).or(Err(Refusal::Prompt))
 }
 
 // The characters and style sequences at the front, as one piece.

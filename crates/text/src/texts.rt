@@ -1,7 +1,7 @@
 // Good texts: UTF-8 with no control but LF.
 ghost use Rattle.std.specs.Prelude.{◌≤◌, length, take, drop, IsUtf8, Decides};
 ghost use Rattle.std.specs.Str.{IsCharBoundary};
-ghost use Rattle.text.specs.Checks.{ChecksText};
+ghost use Rattle.text.specs.Checks.{ChecksText, ChecksWithin};
 ghost use Rattle.text.specs.Decoding.{Within};
 ghost use Rattle.text.specs.Pieces.{GoodFront, GoodRun};
 
@@ -17,6 +17,17 @@ pub fn check_text(bytes: &[u8]) -> Result<(), Refusal>
     } else {
         Ok(())
     }
+}
+
+// Accepts a good text of at most `max` bytes; refuses one that is not good before it refuses one that is too long.
+pub fn check_text_within(bytes: &[u8], max: usize) -> Result<(), Refusal>
+    ensures { ChecksWithin bytes.now max result }
+{
+    check_text(bytes)?;
+    if bytes.len() > max {
+        return Err(Refusal::Long);
+    }
+    Ok(())
 }
 
 // Whether a position is within the bytes and no continuation byte stands there: in UTF-8, where whole characters end.
