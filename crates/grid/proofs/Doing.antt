@@ -1,9 +1,10 @@
 -- What a grid does in steps. Assumes nothing.
-use Rattle.std.proofs.Common.{◌≡◌, ℕ, ◌+◌, ◌<◌, ◌≤◌, Bool, true, false, sym, refl, ap, ◌∙◌, subst, arith}
+use Rattle.std.proofs.Common.{◌≡◌, ℕ, ◌+◌, ◌<◌, ◌≤◌, Ok, Err, Result, sym, refl, ap, ◌∙◌, subst, arith}
 use Rattle.screen.specs.Screen.{Screen, Row}
 use Rattle.grid.specs.Meaning.{shown}
 use Rattle.grid.specs.Steps.{drawn, rowed, Does, Tries}
 use Rattle.grid.proofs.Papers.{on_row-same, on_row-none, on_row-twice}
+use Rattle.grid.specs.declared.full.Full.{Full}
 use Rattle.grid.specs.declared.grid.Grid.{Grid}
 
 -- one thing and then another
@@ -27,10 +28,10 @@ pub row-none : {W : Type 0} (r : ℕ) (f : Row → Row) (a : Grid W) → f ((sho
 row-none r f a same = record { shows = ap (λ p. drawn p (shown a)) (sym (on_row-none r f (shown a).pen.paper same)); depth = refl; size = refl }
 
 -- what is tried, in other words
-pub tries-as : {W : Type 0} (e f : Screen → Screen) (a b : Grid W) (r : Bool) → e (shown a) ≡ f (shown a) → Tries e a b r → Tries f a b r
-tries-as e f a b true same h = (does-as e f a b same h.0, subst (λ t. t.top + a.size.rows ≤ a.depth) same h.1)
-tries-as e f a b false same h = (h.0, subst (λ t. a.depth < t.top + a.size.rows) same h.1)
+pub tries-as : {W : Type 0} (e f : Screen → Screen) (a b : Grid W) (r : Result (Unit {0}) Full) → e (shown a) ≡ f (shown a) → Tries e a b r → Tries f a b r
+tries-as e f a b (Ok u) same h = (does-as e f a b same h.0, subst (λ t. t.top + a.size.rows ≤ a.depth) same h.1)
+tries-as e f a b (Err x) same h = (h.0, subst (λ t. a.depth < t.top + a.size.rows) same h.1)
 
 -- what is done was tried: the window of a grid lies within its cells
-pub tries-done : {W : Type 0} (f : Screen → Screen) (a b : Grid W) → Does f a b → Tries f a b true
+pub tries-done : {W : Type 0} (f : Screen → Screen) (a b : Grid W) → Does f a b → Tries f a b (Ok tt)
 tries-done f a b one = (one, omega (arith, b.within, ap (λ t. t.top) one.shows, one.depth, ap (λ z. z.rows) one.size))

@@ -1,8 +1,9 @@
 -- What the grid's own steps do to its screen. Assumes nothing.
-use Rattle.std.specs.Prelude.{◌≡◌, ℕ, suc, ◌+◌, ◌-◌, ◌<◌, ◌≤◌, max, Bool, true, false, cond, ◌==◌, nat_le}
+use Rattle.std.specs.Prelude.{◌≡◌, ℕ, suc, ◌+◌, ◌-◌, ◌<◌, ◌≤◌, max, cond, Ok, Err, Result, ◌==◌, nat_le}
 use Rattle.screen.specs.Screen.{Screen, Geometry, Row, Paper, Pen, on_row}
 use Rattle.screen.specs.declared.cells.Cell.{Cell}
 use Rattle.screen.specs.declared.cells.Cell.TheVariants.{Blank}
+use Rattle.grid.specs.declared.full.Full.{Full}
 use Rattle.grid.specs.declared.grid.Grid.{Grid}
 use Rattle.grid.specs.Meaning.{shown}
 
@@ -37,6 +38,6 @@ pub record Does {W : Type 0} (f : Screen → Screen) (g h : Grid W) : Type 0 whe
   pub size : h.size ≡ g.size
 
 -- the grid then shows what f makes of its screen; or else nothing changed, since the window of that screen does not lie within the cells
-abbrev pub Tries : {W : Type 0} → (Screen → Screen) → Grid W → Grid W → Bool → Type 0
-Tries f g h true = Does f g h × ((f (shown g)).top + g.size.rows ≤ g.depth)
-Tries f g h false = Does (λ s. s) g h × (g.depth < (f (shown g)).top + g.size.rows)
+abbrev pub Tries : {W : Type 0} → (Screen → Screen) → Grid W → Grid W → Result (Unit {0}) Full → Type 0
+Tries f g h (Ok u) = Does f g h × ((f (shown g)).top + g.size.rows ≤ g.depth)
+Tries f g h (Err e) = Does (λ s. s) g h × (g.depth < (f (shown g)).top + g.size.rows)

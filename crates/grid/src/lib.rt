@@ -6,6 +6,7 @@ mod cells;
 mod creating;
 mod drawing;
 mod erasing;
+mod full;
 pub mod grid;
 mod parsing;
 mod putting;

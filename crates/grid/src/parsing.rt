@@ -7,6 +7,7 @@ ghost use Rattle.grid.specs.Meaning.{area};
 ghost use Rattle.grid.specs.Steps.{Does, Tries};
 
 use crate::acting::with_parameter;
+use crate::full::Full;
 use crate::grid::Grid;
 use screen::cells::{Parameters, Parser, Partial};
 use widths::tables::WidthTable;
@@ -52,19 +53,19 @@ impl<W: WidthTable> Grid<W> {
 }
 
 impl<W: WidthTable> Grid<W> {
-    // A byte where nothing is unfinished: false, with nothing changed, where the window would then leave the cells.
-    fn on_ground(&mut self, byte: u8) -> bool
+    // A byte where nothing is unfinished.
+    fn on_ground(&mut self, byte: u8) -> Result<(), Full>
         ensures { Tries (step_in (area W.WidthTable.columns self.old) Ground byte) self.old self.new result }
     {
         if byte < 128 {
             return self.put(byte as char);
         }
         self.begin_character(byte);
-        true
+        Ok(())
     }
 
     // One more byte of a character.
-    fn continue_character(&mut self, partial: Partial, byte: u8) -> bool
+    fn continue_character(&mut self, partial: Partial, byte: u8) -> Result<(), Full>
         requires sure { sure partial ≡ true }
         requires low { partial.low ≤ byte }
         requires high { byte ≤ partial.high }
@@ -80,28 +81,28 @@ impl<W: WidthTable> Grid<W> {
             low: 0x80,
             high: 0xbf,
         }));
-        true
+        Ok(())
     }
 }
 
 impl<W: WidthTable> Grid<W> {
     // A byte that does not continue the character begun.
-    fn begin_anew(&mut self, byte: u8) -> bool
+    fn begin_anew(&mut self, byte: u8) -> Result<(), Full>
         ensures { Tries (λ s. step_in (area W.WidthTable.columns self.old) Ground byte (dropped s)) self.old self.new result }
     {
         let parser = self.parser;
         let join = self.join;
         self.drop_unfinished();
-        if self.on_ground(byte) {
-            return true;
+        let taken = self.on_ground(byte);
+        if taken.is_err() {
+            self.parser = parser;
+            self.join = join;
         }
-        self.parser = parser;
-        self.join = join;
-        false
+        taken
     }
 
     // A byte inside a character: it continues it, or drops it and counts for itself.
-    fn in_character(&mut self, partial: Partial, byte: u8) -> bool
+    fn in_character(&mut self, partial: Partial, byte: u8) -> Result<(), Full>
         requires { sure partial ≡ true }
         ensures { Tries (step_in (area W.WidthTable.columns self.old) (Character partial) byte) self.old self.new result }
     {
@@ -145,23 +146,23 @@ impl<W: WidthTable> Grid<W> {
         self.parser = Parser::Escape;
     }
 
-    // One byte: false, with nothing changed, where the window would then leave the cells.
-    pub(crate) fn step(&mut self, byte: u8) -> bool
+    // One byte.
+    pub(crate) fn step(&mut self, byte: u8) -> Result<(), Full>
         ensures { Tries (step (area W.WidthTable.columns self.old) byte) self.old self.new result }
     {
         match (self.parser, byte) {
             (_, 27) => {
                 self.escape();
-                true
+                Ok(())
             }
             (Parser::Ground, _) => self.on_ground(byte),
             (Parser::Escape, _) => {
                 self.after_escape(byte);
-                true
+                Ok(())
             }
             (Parser::Sequence(parameters), _) => {
                 self.in_sequence(parameters, byte);
-                true
+                Ok(())
             }
             (Parser::Character(partial), _) => self.in_character(partial, byte),
         }

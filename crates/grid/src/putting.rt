@@ -1,43 +1,43 @@
 // Characters put on a grid, by the character rules.
-ghost use Rattle.std.specs.Prelude.{◌≡◌, ◌+◌, ◌<◌, ◌≤◌, true, nat_lt};
+ghost use Rattle.std.specs.Prelude.{◌≡◌, ◌+◌, ◌<◌, ◌≤◌, OnOk, nat_lt};
 ghost use Rattle.screen.specs.Screen.{combine, control, follow, newline, put, room, takes};
 ghost use Rattle.grid.specs.Meaning.{area};
 ghost use Rattle.grid.specs.Steps.{Does, penned, shifted, Tries};
 
+use crate::full::Full;
 use crate::grid::Grid;
 use screen::cells::Parser;
 use text::decode::is_control;
 use widths::tables::WidthTable;
 
 impl<W: WidthTable> Grid<W> {
-    // Goes to column 0 of the next row: false where the window would then leave the cells.
-    fn next_row(&mut self) -> bool
+    // Goes to column 0 of the next row.
+    fn next_row(&mut self) -> Result<(), Full>
         ensures { Tries (λ s. shifted (area W.WidthTable.columns self.old) (newline s.pen) s) self.old self.new result }
     {
         let end = self.top + self.size.rows() as usize;
         if self.row + 1 == end {
             if end == self.depth {
-                return false;
+                return Err(Full);
             }
             self.top += 1;
         }
         self.row += 1;
         self.col = 0;
         self.join = None;
-        true
+        Ok(())
     }
 
-    // Goes to the next row where so many columns do not fit this one: false where the window would then leave the cells.
-    fn make_room(&mut self, width: u8) -> bool
+    // Goes to the next row where so many columns do not fit this one.
+    fn make_room(&mut self, width: u8) -> Result<(), Full>
         requires { width ≤ 2 }
         ensures tries { Tries (λ s. shifted (area W.WidthTable.columns self.old) (room (nat_lt self.old.size.cols (s.pen.col + width)) s.pen) s) self.old self.new result }
-        ensures fits { result ≡ true → self.new.col + width ≤ self.new.size.cols }
+        ensures fits { OnOk result (self.new.col + width ≤ self.new.size.cols) }
     {
         if self.col + width as u16 > self.size.cols() {
-            self.next_row()
-        } else {
-            true
+            self.next_row()?;
         }
+        Ok(())
     }
 
     // Puts a character of one or two columns at the cursor.
@@ -65,29 +65,25 @@ impl<W: WidthTable> Grid<W> {
         self.parser = Parser::Ground;
     }
 
-    // A character of one or two columns: false where the window would then leave the cells.
-    fn take(&mut self, c: char, width: u8) -> bool
+    // A character of one or two columns.
+    fn take(&mut self, c: char, width: u8) -> Result<(), Full>
         requires some { 1 ≤ width }
         requires narrow { width ≤ 2 }
         ensures { Tries (λ s. follow (area W.WidthTable.columns self.old) (takes width c (room (nat_lt self.old.size.cols (s.pen.col + width)) s.pen)) s) self.old self.new result }
     {
-        if !self.make_room(width) {
-            return false;
-        }
+        self.make_room(width)?;
         self.take_cells(c, width);
         self.parser = Parser::Ground;
-        true
+        Ok(())
     }
 
-    // What a control does: false where the window would then leave the cells.
-    fn control(&mut self, c: char) -> bool
+    // What a control does.
+    fn control(&mut self, c: char) -> Result<(), Full>
         ensures { Tries (λ s. follow (area W.WidthTable.columns self.old) (control c s.pen) s) self.old self.new result }
     {
         match c {
             '\n' => {
-                if !self.next_row() {
-                    return false;
-                }
+                self.next_row()?;
                 self.parser = Parser::Ground;
             }
             '\r' => {
@@ -97,11 +93,11 @@ impl<W: WidthTable> Grid<W> {
             }
             _ => self.drop_unfinished(),
         }
-        true
+        Ok(())
     }
 
-    // A whole character: false, with nothing changed, where the window would then leave the cells.
-    pub(crate) fn put(&mut self, c: char) -> bool
+    // A whole character.
+    pub(crate) fn put(&mut self, c: char) -> Result<(), Full>
         ensures { Tries (put (area W.WidthTable.columns self.old) c) self.old self.new result }
     {
         if is_control(c) {
@@ -110,7 +106,7 @@ impl<W: WidthTable> Grid<W> {
         let width = W::width(c);
         if width == 0 {
             self.combine(c);
-            return true;
+            return Ok(());
         }
         self.take(c, width)
     }

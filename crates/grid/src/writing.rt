@@ -8,6 +8,7 @@ ghost use Rattle.terminal.specs.Feeds.{taken-within};
 ghost use Rattle.grid.specs.Takings.{fitting-within};
 ghost use Rattle.std.proofs.Common.{rules, arith};
 
+use crate::full::Full;
 use crate::grid::Grid;
 use terminal::size::Size;
 use terminal::terminal::{Terminal, WriteAnswer};
@@ -20,7 +21,7 @@ impl<W: WidthTable> Grid<W> {
         ensures drawn { Does (feed (area W.WidthTable.columns self.old) (take result bytes.now)) self.old self.new }
     {
         for (i, byte) in bytes.iter().enumerate() {
-            if !self.step(*byte) {
+            if let Err(Full) = self.step(*byte) {
                 return i;
             }
         }

@@ -1,4 +1,4 @@
-use Rattle.std.proofs.Common.{◌+◌, true, ltb, sym, ◌∙◌}
+use Rattle.std.proofs.Common.{◌+◌, Ok, ltb, sym, ◌∙◌}
 use Rattle.screen.specs.Screen.{put, follow, control, combine, takes, room}
 use Rattle.grid.specs.Meaning.{shown, area}
 use Rattle.grid.proofs.Doing.{tries-as, tries-done}
@@ -15,7 +15,7 @@ pub returns-then-width-eq0 : goal.returns-then-width-eq0
 returns-then-width-eq0 g c =
     let s = c.args.self.now in
     let d = area g.W.WidthTable.columns s in
-    tries-as (λ t. follow d (combine t.pen.join c.args.c t.pen) t) (put d c.args.c) s c.combine.new.self true (put-mark d c.args.c (shown s) (sym c.if-is_control.ensures) (sym c.width-width.ensures ∙ c.if-width-eq0.true))
+    tries-as (λ t. follow d (combine t.pen.join c.args.c t.pen) t) (put d c.args.c) s c.combine.new.self (Ok tt) (put-mark d c.args.c (shown s) (sym c.if-is_control.ensures) (sym c.width-width.ensures ∙ c.if-width-eq0.true))
     (tries-done (λ t. follow d (combine t.pen.join c.args.c t.pen) t) s c.combine.new.self c.combine.ensures)
 
 pub returns : goal.returns

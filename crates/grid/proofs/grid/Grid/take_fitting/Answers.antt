@@ -5,14 +5,14 @@ use Rattle.grid.specs.Meaning.{shown, area}
 use Rattle.grid.specs.Takings.{sofar-more, sofar-stop, sofar-all}
 use Rattle.grid.proofs.grid.Grid.take_fitting.Goals as goal
 
-pub returns-then-not-step : goal.returns-then-not-step
-returns-then-not-step g c =
+pub returns-in-Err : goal.returns-in-Err
+returns-in-Err g c =
     let s = c.args.self.now in
     let w = g.W.WidthTable.columns in
     let t = c.loop-i.self in
     let b = get_or c.args.bytes.now c.loop-i.i 0 in
     let inv = c.loop-i.invariant in
-    let told = c.if-not-step.ensures in
+    let told = c.in-Err.ensures in
     let full = subst (λ z. t.depth < (step (geometry w z) b (shown t)).top + z.rows) inv.2 told.1 in
     record {
       count = sofar-stop (area w s) s.depth c.args.bytes.now (shown s) c.loop-i.i (shown t) c.loop-i-test.true inv.0 (omega (arith, inv.1, full));
@@ -26,7 +26,7 @@ loop-i-preserved g c =
     let t = c.loop-i.self in
     let b = get_or c.args.bytes.now c.loop-i.i 0 in
     let inv = c.loop-i.invariant in
-    let told = c.if-not-step.ensures in
+    let told = c.in_default.ensures in
     let here = told.0.shows ∙ ap (λ z. step (geometry w z) b (shown t)) inv.2 in
     let room = subst (λ z. (step (geometry w z) b (shown t)).top + z.rows ≤ t.depth) inv.2 told.1 in
     (sofar-more (area w s) s.depth c.args.bytes.now (shown s) c.loop-i.i (shown t) (shown c.step.new.self) c.loop-i-test.true inv.0 here (omega (arith, inv.1, room)), told.0.depth ∙ inv.1, told.0.size ∙ inv.2)
