@@ -1,0 +1,19 @@
+// Bytes at the front of a fixed memory.
+ghost use Rattle.std.specs.Prelude.{◌≡◌, ◌≤◌, length};
+
+mod making;
+mod reading;
+mod writing;
+
+// At most `N` bytes: those in the first `len` bytes of the memory.
+#[derive(Clone, Copy)]
+pub struct Buffer<const N: usize> {
+    memory: [u8; N],
+    len: usize,
+    ghost whole: { length memory ≡ N },
+    ghost within: { len ≤ N },
+}
+
+// Bytes for which a buffer has no room.
+#[derive(Clone, Copy, Debug, PartialEq, Eq)]
+pub struct Full;

@@ -1,0 +1,4 @@
+//! Bytes at the front of a fixed memory.
+#![tactic(auto)]
+
+pub mod buffer;
