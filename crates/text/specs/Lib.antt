@@ -6,3 +6,4 @@ pub mod Pieces
 pub mod Checks
 pub mod Refusals
 pub mod Lines
+pub mod Tests
