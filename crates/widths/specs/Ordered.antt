@@ -1,7 +1,7 @@
 -- What the order of the ranges gives. Assumes nothing.
-use Rattle.std.specs.Prelude.{◌≡◌, ℕ, zero, suc, ◌+◌, ◌<◌, ◌≤◌, Bool, true, false, cond, ◌&&◌, List, [], ◌∷◌, length, drop, nat_le, slice_index_or, refl}
+use Rattle.std.specs.Prelude.{◌≡◌, ℕ, zero, suc, ◌+◌, ◌<◌, ◌≤◌, Bool, true, false, cond, ◌&&◌, List, [], ◌∷◌, length, drop, Some, None, Option, find, nat_le, slice_index_or, refl}
 use Rattle.std.proofs.Common.{ap, ◌∙◌, not-suc-le-zero, le_of_suc-le-suc, arith}
-use Rattle.std.proofs.lemmas.Bool.{leb-true, le-leb, lt-leb, and_parts, and_from, and_right, cond_both, cond-true, cond-false}
+use Rattle.std.proofs.lemmas.Bool.{leb-true, le-leb, lt-leb, and_parts, and_from, and_left, and_right, cond_both, cond-true, cond-false}
 use Rattle.std.proofs.lemmas.Bool.Decides.{nat_tests}
 use Rattle.std.proofs.lemmas.List.{drop_more}
 use Rattle.widths.specs.declared.ranges.WidthRange.{WidthRange}
@@ -49,6 +49,23 @@ module _ (rs : List WidthRange) (i c : ℕ) (d : WidthRange) (within : i < lengt
   -- the range at i does not hold it
   pub passed-at : (slice_index_or rs i d).last < c → listed (drop i rs) c ≡ listed (drop (i + 1) rs) c
   passed-at high = next ∙ cond-false _ _ _ (and_right _ _ (lt-leb _ _ high))
+
+-- the width of a character by a range that may hold it
+abbrev pub width_by : ℕ → Option WidthRange → ℕ
+width_by c None = 1
+width_by c (Some r) = cond (nat_le r.first c) r.width 1
+
+-- the first range that does not end before a character decides
+pub listed-find : (rs : List WidthRange) (n c : ℕ) → ascending n rs ≡ true → listed rs c ≡ width_by c (find (λ r. nat_le c r.last) rs)
+listed-find [] n c up = refl
+listed-find (r ∷ rs) n c up =
+    let a = and_parts (nat_le n r.first) _ up in
+    let b = and_parts (nat_le r.first r.last) _ a.1 in
+    cond_both (nat_le c r.last) (Some r) (find (λ r. nat_le c r.last) rs) (λ o. listed (r ∷ rs) c ≡ width_by c o)
+    (λ high. cond_both (nat_le r.first c) r.width 1 (λ n. listed (r ∷ rs) c ≡ n)
+    (λ low. cond-true _ _ _ (and_from _ _ low high))
+    (λ low. cond-false _ _ _ (and_left _ _ low) ∙ before rs (r.last + 1) c b.1 (let h = leb-true c r.last high in omega arith)))
+    (λ high. cond-false _ _ _ (and_right _ _ high) ∙ listed-find rs (r.last + 1) c b.1)
 
 pub control-zero : (c : ℕ) → is_control c ≡ true → listed ranges c ≡ 0
 control-zero c h = grind (arith, nat_tests)

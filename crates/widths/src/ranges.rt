@@ -1,5 +1,6 @@
 // The characters that do not take one column.
-ghost use Rattle.std.specs.Prelude.{◌≡◌, true};
+ghost use Rattle.std.specs.Prelude.{◌≡◌, true, find, nat_le};
+ghost use Rattle.std.specs.Option.{option_copied};
 ghost use Rattle.widths.specs.Widths.{ranges, listed, ascending};
 
 // The characters from `first` to `last` take `width` columns.
@@ -59,20 +60,22 @@ const RANGES: [WidthRange; 9] = [
     },
 ];
 
-// The width that the ranges give to a character: their order lets the search stop early.
+// The first range that does not end before a character.
+fn range_from(ranges: &[WidthRange], code: u32) -> Option<&WidthRange>
+    ensures { option_copied result ≡ find (λ r. nat_le code r.last) ranges.now }
+{
+    ranges.iter().find(|range| code <= range.last)
+}
+
+// The width that the ranges give to a character: by their order no later range holds it.
 fn width_in(ranges: &[WidthRange], code: u32) -> u8
     requires { ascending 0 ranges.now ≡ true }
     ensures { result ≡ listed ranges.now code }
 {
-    for range in ranges {
-        if code < range.first {
-            break;
-        }
-        if code <= range.last {
-            return range.width;
-        }
+    match range_from(ranges, code) {
+        Some(range) if range.first <= code => range.width,
+        _ => 1,
     }
-    1
 }
 
 // The width of a character by the one table.

@@ -1,20 +1,16 @@
 use Rattle.std.proofs.Common.{sym, ap, ◌∙◌}
-use Rattle.std.proofs.lemmas.List.{drop_all}
-use Rattle.widths.specs.Widths.{listed}
-use Rattle.widths.specs.Ordered.{before_at, held_at, passed-at}
+use Rattle.std.specs.Option.{option_copied}
+use Rattle.std.proofs.lemmas.Bool.{cond-true, cond-false, le-leb, lt-leb}
+use Rattle.widths.specs.Ordered.{width_by, listed-find}
 use Rattle.widths.proofs.ranges.width_in.Goals as goal
 
-pub returns-then-code-range-2 : goal.returns-then-code-range-2
-returns-then-code-range-2 c =
-    sym (c.loop-range.invariant ∙ held_at c.args.ranges.now c.loop-range.range-index c.args.code _ c.loop-range-test.true c.if-code-range.false c.if-code-range-2.true)
+pub returns-in-Some : goal.returns-in-Some
+returns-in-Some c =
+    sym (listed-find _ 0 c.args.code c.requires ∙ ap (width_by c.args.code) (sym c.in-Some.ensures) ∙ cond-true _ _ 1 (le-leb _ _ c.if-range-code.true))
 
-pub loop-range-preserved : goal.loop-range-preserved
-loop-range-preserved c =
-    c.loop-range.invariant ∙ passed-at c.args.ranges.now c.loop-range.range-index c.args.code _ c.loop-range-test.true c.if-code-range-2.false
+pub returns-in_default : goal.returns-in_default
+returns-in_default c =
+    sym (listed-find _ 0 c.args.code c.requires ∙ ap (width_by c.args.code) (sym c.in-Some.ensures) ∙ cond-false _ _ 1 (lt-leb _ _ c.if-range-code.false))
 
-pub returns-after-loop-range : goal.returns-after-loop-range
-returns-after-loop-range c = sym (c.loop-range.invariant ∙ ap (λ l. listed l c.args.code) (drop_all _ c.args.ranges.now c.loop-range-test.false))
-
-pub returns-then-code-range : goal.returns-then-code-range
-returns-then-code-range c =
-    sym (c.loop-range.invariant ∙ before_at c.args.ranges.now 0 c.loop-range.range-index c.args.code _ c.requires c.loop-range-test.true c.if-code-range.true)
+pub returns-in_default-2 : goal.returns-in_default-2
+returns-in_default-2 c = sym (listed-find _ 0 c.args.code c.requires ∙ ap (width_by c.args.code) (sym c.range_from.ensures ∙ ap option_copied c.in_default.is))
