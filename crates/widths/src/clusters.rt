@@ -1,10 +1,11 @@
 // Clusters: a character with the zero-width characters behind it.
-ghost use Rattle.std.specs.Prelude.{◌≡◌, ◌+◌, ◌^◌, ◌<◌, ◌≤◌, true, false, length, drop};
+ghost use Rattle.std.specs.Prelude.{◌≡◌, ◌+◌, ◌^◌, ◌<◌, ◌≤◌, ◌↔◌, true, false, [], length, drop, IsTrue};
 ghost use Rattle.text.specs.Characters.{is_control};
 ghost use Rattle.widths.specs.Clusters.{is_mark};
 ghost use Rattle.widths.specs.Fronts.{FrontMarks, NoMark, cluster_of, Clustered, Within};
 
 use crate::tables::WidthTable;
+use std::marker::PhantomData;
 use text::decode::{Decoded, char_at, is_control};
 
 // A cluster in some bytes: its first character, whether no mark follows it, its bytes and its columns.
@@ -65,4 +66,49 @@ pub fn cluster_at<W: WidthTable>(bytes: &[u8], at: usize) -> Option<ClusterAt>
     let first = char_at(bytes, at)?;
     let marks = marks_behind::<W>(first.code, bytes, at + first.len);
     Some(cluster_of::<W>(first, marks))
+}
+
+// The clusters of some bytes, from the front on: they end where no UTF-8 character begins.
+#[derive(Drop)]
+pub struct Clusters<'a, W> {
+    rest: &'a [u8],
+    table: PhantomData<W>,
+}
+
+impl<'a, W: WidthTable> Clusters<'a, W> {
+    ghost use Rattle.widths.specs.Walks.{bytes_left};
+
+    // The clusters of some bytes.
+    pub fn new(bytes: &'a [u8]) -> Self
+        ensures { bytes_left result ≡ bytes.now }
+    {
+        Clusters {
+            rest: bytes,
+            table: PhantomData,
+        }
+    }
+
+    // Whether every byte has come in a cluster.
+    pub fn is_done(&self) -> bool
+        ensures { IsTrue result ↔ (bytes_left self.now ≡ []) }
+    {
+        self.rest.is_empty()
+    }
+}
+
+impl<'a, W: WidthTable> Iterator for Clusters<'a, W> {
+    ghost use Rattle.std.specs.Iterator.{at_most};
+    ghost use Rattle.widths.specs.Walks.{bytes_left, TakesCluster};
+
+    type Item = ClusterAt;
+
+    ghost next_gives = { λ s r t. TakesCluster W.WidthTable.columns (bytes_left s) r (bytes_left t) };
+
+    ghost remaining = { λ s. at_most (length (bytes_left s)) };
+
+    fn next(&mut self) -> Option<ClusterAt> {
+        let cluster = cluster_at::<W>(self.rest, 0)?;
+        self.rest = &self.rest[cluster.len..];
+        Some(cluster)
+    }
 }

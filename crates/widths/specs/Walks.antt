@@ -1,0 +1,22 @@
+-- A walk over the clusters of some bytes. Assumes nothing.
+use Rattle.std.specs.Prelude.{◌≡◌, ℕ, ◌<◌, ◌≤◌, List, length, drop, Some, None, Option}
+use Rattle.text.specs.Decoding.{NoCharacter}
+use Rattle.widths.specs.declared.clusters.ClusterAt.{ClusterAt}
+use Rattle.widths.specs.declared.clusters.Clusters.{Clusters}
+use Rattle.widths.specs.Fronts.{FrontCluster}
+
+-- the bytes of which no cluster has come yet
+abbrev pub bytes_left : {W : Type 0} → Clusters W → List ℕ
+bytes_left clusters = clusters.rest.now
+
+-- a cluster is taken from the front of some bytes, and others are left
+pub record Taken (w : ℕ → ℕ) (bs : List ℕ) (k : ClusterAt) (left : List ℕ) : Type 0 where
+  pub front : FrontCluster w bs k
+  pub some : 0 < k.len
+  pub within : k.len ≤ length bs
+  pub others : left ≡ drop k.len bs
+
+-- what is taken: a cluster, or nothing where no character stands
+abbrev pub TakesCluster : (ℕ → ℕ) → List ℕ → Option ClusterAt → List ℕ → Type 0
+TakesCluster w bs None left = NoCharacter bs × (left ≡ bs)
+TakesCluster w bs (Some k) left = Taken w bs k left
