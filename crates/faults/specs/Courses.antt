@@ -4,9 +4,8 @@ use Rattle.std.proofs.Common.{sym, ap, ◌∙◌, arith}
 use Rattle.std.proofs.lemmas.Bool.{cond_both}
 use Rattle.screen.specs.Screen.{Screen, Geometry}
 use Rattle.screen.specs.Bytes.{feed}
-use Rattle.terminal.specs.Answers.{Worked, taken}
+use Rattle.terminal.specs.Answers.{WriteAnswer, Worked, taken}
 use Rattle.terminal.specs.declared.size.Size.{Size}
-use Rattle.terminal.specs.declared.terminal.WriteAnswer.{WriteAnswer}
 use Rattle.terminal.specs.Feeds.{worked-front}
 use Rattle.faults.specs.declared.fault.FaultAnswer.{FaultAnswer}
 use Rattle.faults.specs.declared.fault.FaultAnswer.TheVariants.{Down, Interrupted, Takes}

@@ -2,7 +2,7 @@
 ghost use Rattle.std.specs.Prelude.{◌≡◌};
 ghost use Rattle.faults.specs.Faults.{answer_at, course_of, passing};
 
-use terminal::terminal::WriteAnswer;
+use terminal::terminal::{WriteAnswer, WriteError};
 
 // How a call goes wrong.
 #[derive(Clone, Copy)]
@@ -44,9 +44,9 @@ fn pass_on(count: usize, room: usize) -> Course
     ensures { result ≡ passing count room }
 {
     if count == 0 {
-        Course::Answer(WriteAnswer::Took(0))
+        Course::Answer(Ok(0))
     } else if room == 0 {
-        Course::Answer(WriteAnswer::Down)
+        Course::Answer(Err(WriteError::Down))
     } else {
         Course::Pass(count.min(room))
     }
@@ -57,8 +57,8 @@ pub fn course_of(fault: Option<FaultAnswer>, offered: usize, room: usize) -> Cou
     ensures { result ≡ course_of fault offered room }
 {
     match fault {
-        Some(FaultAnswer::Down) => Course::Answer(WriteAnswer::Down),
-        Some(FaultAnswer::Interrupted) => Course::Answer(WriteAnswer::Interrupted),
+        Some(FaultAnswer::Down) => Course::Answer(Err(WriteError::Down)),
+        Some(FaultAnswer::Interrupted) => Course::Answer(Err(WriteError::Interrupted)),
         Some(FaultAnswer::Takes(count)) => pass_on(count.min(offered), room),
         None => pass_on(offered, room),
     }

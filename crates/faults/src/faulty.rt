@@ -8,7 +8,7 @@ ghost use Rattle.std.proofs.Common.{rules};
 
 use crate::fault::{Course, Fault, answer_at, course_of};
 use terminal::size::Size;
-use terminal::terminal::{Terminal, WriteAnswer};
+use terminal::terminal::{Terminal, WriteAnswer, taken};
 
 // Counts the calls of its write, answers those that have a fault by it, passes the others on, and keeps the bytes that have worked.
 // A write for whose bytes there is no memory is down: no byte works unseen.
@@ -89,7 +89,7 @@ impl<T: Terminal> Terminal for Faulty<T> {
             Course::Answer(answer) => answer,
             Course::Pass(count) => {
                 let answer = self.below.write(&bytes[0..count]);
-                let _ = self.log.extend_from_slice(&bytes[0..answer.taken()]);
+                let _ = self.log.extend_from_slice(&bytes[0..taken(answer)]);
                 answer
             }
         }

@@ -2,8 +2,7 @@
 use Rattle.std.specs.Prelude.{◌≡◌, ℕ, ◌+◌, Bool, cond, List, [], ◌∷◌, length, take, nat_le}
 use Rattle.screen.specs.Screen.{Screen, Geometry}
 use Rattle.screen.specs.Bytes.{step, feed}
-use Rattle.terminal.specs.Answers.{taken, answer_for}
-use Rattle.terminal.specs.declared.terminal.WriteAnswer.{WriteAnswer}
+use Rattle.terminal.specs.Answers.{WriteAnswer, taken, answer_for}
 use Rattle.grid.specs.declared.grid.Grid.{Grid}
 use Rattle.grid.specs.Meaning.{shown, area}
 

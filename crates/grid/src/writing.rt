@@ -11,7 +11,7 @@ ghost use Rattle.std.proofs.Common.{rules, arith};
 use crate::full::Full;
 use crate::grid::Grid;
 use terminal::size::Size;
-use terminal::terminal::{Terminal, WriteAnswer};
+use terminal::terminal::{Terminal, WriteAnswer, WriteError};
 use widths::tables::WidthTable;
 
 impl<W: WidthTable> Grid<W> {
@@ -53,9 +53,9 @@ impl<W: WidthTable> Terminal for Grid<W> {
     fn write(&mut self, bytes: &[u8]) -> WriteAnswer {
         let count = self.take_fitting(bytes);
         if bytes.len() > 0 && count == 0 {
-            WriteAnswer::Down
+            Err(WriteError::Down)
         } else {
-            WriteAnswer::Took(count)
+            Ok(count)
         }
     }
 }

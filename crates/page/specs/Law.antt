@@ -10,7 +10,7 @@ use Rattle.screen.specs.Screen.{Geometry, Screen}
 use Rattle.terminal.specs.Windows.{geometry}
 use Rattle.terminal.specs.Writing.{Ends}
 use Rattle.terminal.specs.declared.size.Size.{Size}
-use Rattle.terminal.specs.declared.terminal.WriteAnswer.{WriteAnswer}
+use Rattle.terminal.specs.Answers.{WriteAnswer}
 use Rattle.terminal.specs.declared.writing.BrokenWrite.{BrokenWrite}
 use Rattle.text.specs.Texts.{GoodText}
 use Rattle.text.specs.declared.refusal.Refusal.{Refusal}

@@ -1,9 +1,8 @@
 -- What a terminal, a highlighter and a hinter keep, so that the law holds. Assumes nothing.
 use Rattle.std.specs.Prelude.{◌≡◌, ℕ, ◌≤◌, Bool, true, List}
 use Rattle.page.specs.Law.{World}
-use Rattle.terminal.specs.Answers.{Worked}
+use Rattle.terminal.specs.Answers.{WriteAnswer, Worked}
 use Rattle.terminal.specs.Windows.{Inside, geometry}
-use Rattle.terminal.specs.declared.terminal.WriteAnswer.{WriteAnswer}
 use Rattle.text.specs.Characters.{is_control}
 use Rattle.text.specs.Texts.{Spells, Styled}
 

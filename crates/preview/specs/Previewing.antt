@@ -14,7 +14,7 @@ use Rattle.screen.specs.Bytes.{feed}
 use Rattle.screen.specs.Places.{place_of, top_left}
 use Rattle.screen.specs.Screen.{Geometry, Screen, block, place_row}
 use Rattle.std.specs.Str.{chars}
-use Rattle.terminal.specs.declared.terminal.WriteAnswer.{WriteAnswer}
+use Rattle.terminal.specs.Answers.{WriteAnswer}
 use Rattle.text.specs.Checks.{Copied}
 use Rattle.text.specs.Texts.{GoodText, Spells, Styled, StyledText}
 use Rattle.text.specs.declared.refusal.Refusal.{Refusal}

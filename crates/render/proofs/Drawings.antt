@@ -8,7 +8,7 @@ use Rattle.render.proofs.Buffers.{push-length, push-push}
 use Rattle.render.proofs.Moves.{old-length, place-length}
 use Rattle.render.specs.Drawing.{AppendsTexts, Composes, Drew, Styles, draw_layout, old_rows, place_layout, styles_bytes}
 use Rattle.std.proofs.lemmas.List.{drop_at, take_at}
-use Rattle.terminal.specs.declared.terminal.WriteAnswer.{WriteAnswer}
+use Rattle.terminal.specs.Answers.{WriteAnswer}
 
 -- the old block's rows come first
 module _ (o : Option Layout) (start one : List ℕ) (none : start ≡ []) (old : one ≡ start ++ old_rows o) where

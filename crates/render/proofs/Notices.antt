@@ -11,7 +11,7 @@ use Rattle.render.specs.Notices.{Printed, closing_line, notice_writes}
 use Rattle.render.specs.Numbering.{Follows}
 use Rattle.std.proofs.lemmas.List.{drop_at, length-append, take_at, take_rest}
 use Rattle.terminal.specs.Writing.{Ends}
-use Rattle.terminal.specs.declared.terminal.WriteAnswer.{WriteAnswer}
+use Rattle.terminal.specs.Answers.{WriteAnswer}
 use Rattle.terminal.specs.declared.writing.BrokenWrite.{BrokenWrite}
 
 -- an empty text does not end with LF

@@ -7,7 +7,7 @@ use Rattle.page.specs.Output.{framed}
 use Rattle.render.specs.Numbering.{marks, numbered, shifted, shifted_act}
 use Rattle.screen.specs.Output.{hold_bytes, release_bytes}
 use Rattle.terminal.specs.Writing.{Ends}
-use Rattle.terminal.specs.declared.terminal.WriteAnswer.{WriteAnswer}
+use Rattle.terminal.specs.Answers.{WriteAnswer}
 use Rattle.terminal.specs.declared.writing.BrokenWrite.{BrokenWrite}
 
 pub byte-marks : (b : Bool) → bool_byte b ≡ marks b

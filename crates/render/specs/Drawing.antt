@@ -11,7 +11,7 @@ use Rattle.page.specs.Law.{Written}
 use Rattle.page.specs.Output.{framed}
 use Rattle.page.specs.declared.outcome.BrokenAct.{BrokenAct}
 use Rattle.screen.specs.Output.{closing, erase_bytes, to_column, up_by}
-use Rattle.terminal.specs.declared.terminal.WriteAnswer.{WriteAnswer}
+use Rattle.terminal.specs.Answers.{WriteAnswer}
 
 -- a block is erased from its cursor
 abbrev pub erase_layout : Layout → List ℕ

@@ -6,7 +6,7 @@ use Rattle.page.specs.Law.{Written}
 use Rattle.page.specs.Output.{framed}
 use Rattle.page.specs.declared.outcome.BrokenAct.{BrokenAct}
 use Rattle.render.specs.Drawing.{Styles, draw_layout, erase_layout}
-use Rattle.terminal.specs.declared.terminal.WriteAnswer.{WriteAnswer}
+use Rattle.terminal.specs.Answers.{WriteAnswer}
 
 -- an LF behind a text that does not end with one
 abbrev pub closing_line : List ℕ → List (List ℕ)

@@ -2,7 +2,7 @@
 use Rattle.std.specs.Prelude.{◌≡◌, ℕ, ◌+◌, Bool, true, false, List, [], ◌∷◌, ◌++◌, length, Ok, Err, Result}
 use Rattle.page.specs.Law.{Written}
 use Rattle.page.specs.declared.outcome.BrokenAct.{BrokenAct}
-use Rattle.terminal.specs.declared.terminal.WriteAnswer.{WriteAnswer}
+use Rattle.terminal.specs.Answers.{WriteAnswer}
 use Rattle.terminal.specs.declared.writing.BrokenWrite.{BrokenWrite}
 
 -- the end of a single write, whose number is 0

@@ -4,13 +4,12 @@ use Rattle.std.proofs.lemmas.List.{take_all, take_rest}
 use Rattle.screen.specs.Screen.{Screen}
 use Rattle.screen.specs.Bytes.{feed}
 use Rattle.terminal.specs.declared.size.Size.{Size}
-use Rattle.terminal.specs.declared.terminal.WriteAnswer.{WriteAnswer}
-use Rattle.terminal.specs.declared.terminal.WriteAnswer.TheVariants.{Took, Interrupted, Down}
+use Rattle.terminal.specs.declared.terminal.WriteError.TheVariants.{Interrupted, Down}
 use Rattle.terminal.specs.declared.writing.WriteFault.{WriteFault}
 use Rattle.terminal.specs.declared.writing.WriteFault.TheVariants as faults
 use Rattle.terminal.specs.declared.writing.BrokenWrite.{BrokenWrite}
 use Rattle.terminal.specs.Windows.{geometry}
-use Rattle.terminal.specs.Answers.{Worked, taken}
+use Rattle.terminal.specs.Answers.{WriteAnswer, Worked, taken}
 use Rattle.terminal.specs.Writing.{Sent, begun, took, interrupted, Offered, Breaks, Last, Ends, WroteAll}
 use Rattle.terminal.specs.Feeds.{feed-more}
 
@@ -51,8 +50,8 @@ module _ {T : Type 0} (w : ℕ → ℕ) (screen : T → Screen) (extent : T → 
 
   pub sent-through : {n i : ℕ} {t : T} → Sent answered bytes start n i t → Through n t
   sent-through begun = record { size = refl; few = omega arith; drawn = refl }
-  sent-through (took {n} {i} {k} {t} {u} s o some) = through-more n i t u (Took k) (sent-through s) o
-  sent-through (interrupted {n} {i} {t} {u} s o) = through-none n i t u Interrupted refl (sent-through s) o
+  sent-through (took {n} {i} {k} {t} {u} s o some) = through-more n i t u (Ok k) (sent-through s) o
+  sent-through (interrupted {n} {i} {t} {u} s o) = through-none n i t u (Err Interrupted) refl (sent-through s) o
 
   busy-short : {n i : ℕ} {t : T} → Sent answered bytes start n i t → 0 < i → n < length bytes
   busy-short begun some = absurd (omega arith)
@@ -60,9 +59,9 @@ module _ {T : Type 0} (w : ℕ → ℕ) (screen : T → Screen) (extent : T → 
   busy-short (interrupted s o) some = o.short
 
   broke-none : (a : WriteAnswer) → Breaks faults.Down a → taken a ≡ 0
-  broke-none (Took k) h = h
-  broke-none Interrupted h = refl
-  broke-none Down h = refl
+  broke-none (Ok k) h = h
+  broke-none (Err Interrupted) h = refl
+  broke-none (Err Down) h = refl
 
   -- the call that broke the write
   last-through : (f : WriteFault) (n : ℕ) (a : WriteAnswer) (end : T) → Last answered bytes start f n a end → (n < length bytes) × Through n end × Breaks f a

@@ -1,14 +1,13 @@
 -- Bytes in portions, and what that gives of writes. Assumes nothing.
-use Rattle.std.specs.Prelude.{◌≡◌, ℕ, ◌+◌, ◌<◌, ◌≤◌, min, ◌&&◌, List, length, take, drop, ◌==◌, nat_lt}
+use Rattle.std.specs.Prelude.{◌≡◌, ℕ, ◌+◌, ◌<◌, ◌≤◌, min, ◌&&◌, List, length, take, drop, Ok, Err, ◌==◌, nat_lt}
 use Rattle.std.proofs.Common.{sym, ap, ◌∙◌, arith, ⊎_elim, length-take, take-take, take-add}
 use Rattle.std.proofs.lemmas.List.{take_all}
 use Rattle.std.proofs.lemmas.Bool.{cases_lt, cond_both, cond-false, and_right, ne_eqb}
 use Rattle.screen.proofs.Sequences.{feed-append}
 use Rattle.screen.specs.Screen.{Screen, Geometry}
 use Rattle.screen.specs.Bytes.{feed}
-use Rattle.terminal.specs.Answers.{Worked, taken, answer_for}
-use Rattle.terminal.specs.declared.terminal.WriteAnswer.{WriteAnswer}
-use Rattle.terminal.specs.declared.terminal.WriteAnswer.TheVariants.{Took, Down}
+use Rattle.terminal.specs.Answers.{WriteAnswer, Worked, taken, answer_for}
+use Rattle.terminal.specs.declared.terminal.WriteError.TheVariants.{Down}
 
 module _ (d : Geometry) where
   -- n bytes, and k of the rest
@@ -31,8 +30,8 @@ take_min n k l e =
 
 -- of n bytes no more are taken than fit
 pub taken-within : (n k : ℕ) (a : WriteAnswer) → k ≤ n → a ≡ answer_for n k → taken a ≤ n
-taken-within n k a le e = rw e (cond_both (nat_lt 0 n && k == 0) Down (Took k) (λ x. taken x ≤ n) (λ _. omega arith) (λ _. le))
+taken-within n k a le e = rw e (cond_both (nat_lt 0 n && k == 0) (Err Down) (Ok k) (λ x. taken x ≤ n) (λ _. omega arith) (λ _. le))
 
 -- some of n bytes fit
-pub took-some : (n k : ℕ) → 0 < k → Took k ≡ answer_for n k
-took-some n k some = sym (cond-false (nat_lt 0 n && k == 0) Down (Took k) (and_right (nat_lt 0 n) (k == 0) (ne_eqb k 0 (λ e. omega arith))))
+pub took-some : (n k : ℕ) → 0 < k → ◌≡◌ {A = WriteAnswer} (Ok k) (answer_for n k)
+took-some n k some = sym (cond-false (nat_lt 0 n && k == 0) (Err Down) (Ok k) (and_right (nat_lt 0 n) (k == 0) (ne_eqb k 0 (λ e. omega arith))))

@@ -4,9 +4,8 @@ use Rattle.std.specs.declared.alloc.Global.{Global}
 use Rattle.screen.specs.Screen.{Screen, blank_screen}
 use Rattle.screen.specs.Bytes.{feed}
 use Rattle.terminal.specs.Windows.{geometry}
-use Rattle.terminal.specs.Answers.{taken, answer_for}
+use Rattle.terminal.specs.Answers.{WriteAnswer, taken, answer_for}
 use Rattle.terminal.specs.declared.size.Size.{Size}
-use Rattle.terminal.specs.declared.terminal.WriteAnswer.{WriteAnswer}
 use Rattle.terminal.specs.declared.record.Record.{Record}
 
 -- the bytes kept

@@ -2,8 +2,8 @@
 use Rattle.std.specs.Prelude.{◌≡◌, ℕ, ◌+◌, ◌<◌, List, length, take, drop, Ok, Err, codes, Result}
 use Rattle.screen.specs.Screen.{Screen, Geometry}
 use Rattle.screen.specs.Bytes.{feed}
-use Rattle.terminal.specs.declared.terminal.WriteAnswer.{WriteAnswer}
-use Rattle.terminal.specs.declared.terminal.WriteAnswer.TheVariants.{Took, Interrupted, Down}
+use Rattle.terminal.specs.Answers.{WriteAnswer}
+use Rattle.terminal.specs.declared.terminal.WriteError.TheVariants.{Interrupted, Down}
 use Rattle.terminal.specs.declared.writing.WriteFault.{WriteFault}
 use Rattle.terminal.specs.declared.writing.WriteFault.TheVariants as faults
 use Rattle.terminal.specs.declared.writing.BrokenWrite.{BrokenWrite}
@@ -20,12 +20,12 @@ fault_word faults.Busy = codes "busy"
 
 -- the answer that breaks a write, by the fault
 abbrev pub Breaks : WriteFault → WriteAnswer → Type 0
-Breaks faults.Down (Took k) = k ≡ 0
-Breaks faults.Down Interrupted = ⊥
-Breaks faults.Down Down = Unit {0}
-Breaks faults.Busy (Took k) = ⊥
-Breaks faults.Busy Interrupted = Unit {0}
-Breaks faults.Busy Down = ⊥
+Breaks faults.Down (Ok k) = k ≡ 0
+Breaks faults.Down (Err Interrupted) = ⊥
+Breaks faults.Down (Err Down) = Unit {0}
+Breaks faults.Busy (Ok k) = ⊥
+Breaks faults.Busy (Err Interrupted) = Unit {0}
+Breaks faults.Busy (Err Down) = ⊥
 
 module _ {T : Type 0} (answered : T → List ℕ → WriteAnswer → T → Type 0) (bytes : List ℕ) (start : T) where
   -- n bytes are taken, fewer than all, and i interruptions came since, fewer than eight: offered the rest, the terminal answered so
@@ -37,13 +37,13 @@ module _ {T : Type 0} (answered : T → List ℕ → WriteAnswer → T → Type 
   -- how far a write has come: so many bytes are taken, and then came so many interruptions in a row
   pub data Sent : ℕ → ℕ → T → Type 0 where
     begun : Sent 0 0 start
-    took : {n i k : ℕ} {t u : T} → Sent n i t → Offered n i t (Took k) u → 0 < k → Sent (n + k) 0 u
-    interrupted : {n i : ℕ} {t u : T} → Sent n i t → Offered n i t Interrupted u → Sent n (i + 1) u
+    took : {n i k : ℕ} {t u : T} → Sent n i t → Offered n i t (Ok k) u → 0 < k → Sent (n + k) 0 u
+    interrupted : {n i : ℕ} {t u : T} → Sent n i t → Offered n i t (Err Interrupted) u → Sent n (i + 1) u
 
   -- the last call: the terminal was down or took nothing, or the eighth interruption in a row came
   abbrev pub Last : WriteFault → ℕ → WriteAnswer → T → Type 0
   Last faults.Down n a end = (i : ℕ) × (t : T) × Sent n i t × Offered n i t a end × Breaks faults.Down a
-  Last faults.Busy n a end = Sent n 8 end × (a ≡ Interrupted)
+  Last faults.Busy n a end = Sent n 8 end × (a ≡ Err Interrupted)
 
   -- how a write ends: all is taken, or it broke
   abbrev pub Ends : Result Unit BrokenWrite → T → Type 0

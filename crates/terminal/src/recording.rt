@@ -14,7 +14,7 @@ ghost use Rattle.terminal.specs.Feeds.{taken-within};
 
 use crate::record::Record;
 use crate::size::Size;
-use crate::terminal::{Terminal, WriteAnswer};
+use crate::terminal::{Terminal, WriteAnswer, WriteError};
 use widths::tables::WidthTable;
 
 // Writes `bytes` into `memory` from `at` on.
@@ -88,16 +88,16 @@ impl<W: WidthTable> Terminal for Record<W> {
 
     fn write(&mut self, bytes: &[u8]) -> WriteAnswer {
         if bytes.is_empty() {
-            return WriteAnswer::Took(0);
+            return Ok(0);
         }
         let at = self.len;
         let room = self.memory.len() - at;
         if room == 0 {
-            return WriteAnswer::Down;
+            return Err(WriteError::Down);
         }
         let count = bytes.len().min(room);
         place(self.memory.as_mut_slice(), at, &bytes[0..count]);
         self.len = at + count;
-        WriteAnswer::Took(count)
+        Ok(count)
     }
 }

@@ -2,46 +2,38 @@
 ghost use Rattle.std.specs.Prelude.{◌≡◌, ℕ, List};
 ghost use Rattle.screen.specs.Screen.{Screen};
 ghost use Rattle.terminal.specs.Windows.{geometry, Inside};
-ghost use Rattle.terminal.specs.Answers.{Worked, answer_number, taken};
+ghost use Rattle.terminal.specs.Answers.{WriteAnswer, Worked, answer_number, taken};
 ghost use Rattle.terminal.specs.declared.size.Size.{Size};
-ghost use Rattle.terminal.specs.declared.terminal.WriteAnswer.{WriteAnswer};
 
 use crate::size::Size;
 use widths::tables::WidthTable;
 
-// What a terminal answers to a write.
-#[derive(Clone, Copy, PartialEq, Eq)]
-pub enum WriteAnswer {
-    // the first bytes, so many of them, have worked
-    Took(usize),
-    // nothing has changed
+// Why a write took nothing; nothing has changed.
+#[derive(Clone, Copy, Debug, PartialEq, Eq)]
+pub enum WriteError {
     Interrupted,
-    // nothing has changed
     Down,
 }
 
-impl WriteAnswer {
-    // The answer's number, 0 to 2.
-    pub fn number(self) -> u8
-        ensures { result ≡ answer_number self }
-    {
-        match self {
-            WriteAnswer::Took(_) => 0,
-            WriteAnswer::Interrupted => 1,
-            WriteAnswer::Down => 2,
-        }
-    }
+// What a terminal answers to a write: the first bytes, so many of them, have worked, or why none has.
+pub type WriteAnswer = Result<usize, WriteError>;
 
-    // How many bytes were taken.
-    pub fn taken(self) -> usize
-        ensures { result ≡ taken self }
-    {
-        match self {
-            WriteAnswer::Took(count) => count,
-            WriteAnswer::Interrupted => 0,
-            WriteAnswer::Down => 0,
-        }
+// An answer's number, 0 to 2.
+pub fn answer_number(answer: WriteAnswer) -> u8
+    ensures { result ≡ answer_number answer }
+{
+    match answer {
+        Ok(_) => 0,
+        Err(WriteError::Interrupted) => 1,
+        Err(WriteError::Down) => 2,
     }
+}
+
+// How many bytes an answer took.
+pub fn taken(answer: WriteAnswer) -> usize
+    ensures { result ≡ taken answer }
+{
+    answer.unwrap_or(0)
 }
 
 // A terminal means a screen of a fixed size, and names the width table that it draws by.

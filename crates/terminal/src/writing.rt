@@ -3,7 +3,7 @@ ghost use Rattle.std.specs.Prelude.{◌≡◌};
 ghost use Rattle.terminal.specs.Windows.{geometry};
 ghost use Rattle.terminal.specs.Writing.{fault_number, fault_word, Ends, WroteAll};
 
-use crate::terminal::{Terminal, WriteAnswer};
+use crate::terminal::{Terminal, WriteAnswer, WriteError};
 
 // So many interruptions in a row, and a write gives up.
 const PATIENCE: u8 = 8;
@@ -58,7 +58,7 @@ pub fn write_all<T: Terminal>(terminal: &mut T, bytes: &[u8]) -> Result<(), Brok
     while taken < bytes.len() {
         let answer = terminal.write(&bytes[taken..bytes.len()]);
         match answer {
-            WriteAnswer::Took(count) => {
+            Ok(count) => {
                 if count == 0 {
                     return Err(BrokenWrite {
                         fault: WriteFault::Down,
@@ -69,7 +69,7 @@ pub fn write_all<T: Terminal>(terminal: &mut T, bytes: &[u8]) -> Result<(), Brok
                 taken += count;
                 interruptions = 0;
             }
-            WriteAnswer::Interrupted => {
+            Err(WriteError::Interrupted) => {
                 interruptions += 1;
                 if interruptions == PATIENCE {
                     return Err(BrokenWrite {
@@ -79,7 +79,7 @@ pub fn write_all<T: Terminal>(terminal: &mut T, bytes: &[u8]) -> Result<(), Brok
                     });
                 }
             }
-            WriteAnswer::Down => {
+            Err(WriteError::Down) => {
                 return Err(BrokenWrite {
                     fault: WriteFault::Down,
                     taken,

@@ -1,13 +1,13 @@
 // A terminal that is always interrupted.
-ghost use Rattle.std.specs.Prelude.{◌≡◌, take};
+ghost use Rattle.std.specs.Prelude.{◌≡◌, take, Err};
 ghost use Rattle.std.proofs.Common.{sym, ap, ◌∙◌, arith, rules};
-ghost use Rattle.terminal.specs.declared.terminal.WriteAnswer.TheVariants.{Interrupted};
+ghost use Rattle.terminal.specs.declared.terminal.WriteError.TheVariants.{Interrupted};
 ghost use Rattle.screen.specs.Bytes.{feed};
 ghost use Rattle.terminal.specs.Windows.{geometry};
 ghost use Rattle.terminal.specs.Answers.{taken};
 
 use terminal::size::Size;
-use terminal::terminal::{Terminal, WriteAnswer};
+use terminal::terminal::{Terminal, WriteAnswer, WriteError};
 
 // It counts the calls, and passes nothing on.
 #[derive(Drop)]
@@ -23,7 +23,7 @@ impl<T: Terminal> Terminal for Deaf<T> {
 
     ghost extent = { λ p. T.Terminal.extent p.below };
 
-    ghost answered = { λ p _ a q. (a ≡ Interrupted) × (q.below ≡ p.below) };
+    ghost answered = { λ p _ a q. (a ≡ Err Interrupted) × (q.below ≡ p.below) };
 
     ghost inside = { Prim.search rules };
 
@@ -41,6 +41,6 @@ impl<T: Terminal> Terminal for Deaf<T> {
 
     fn write(&mut self, _bytes: &[u8]) -> WriteAnswer {
         self.calls = self.calls.saturating_add(1);
-        WriteAnswer::Interrupted
+        Err(WriteError::Interrupted)
     }
 }

@@ -6,7 +6,7 @@ use std::test::Fail;
 use terminal::pacer::Pacer;
 use terminal::record::Record;
 use terminal::size::Size;
-use terminal::terminal::{Terminal, WriteAnswer};
+use terminal::terminal::{Terminal, WriteError};
 use terminal::writing::write_all;
 use widths::tables::{Eastern, Latin};
 
@@ -16,13 +16,13 @@ fn full_grid(rt: HostRuntime) -> Result<(), Fail> {
     let heap = rt.alloc();
     // three rows of paper, just the window
     let mut small = grid(heap, 15)?;
-    assert!(rt; small.write(b"a\n\n\nb") == WriteAnswer::Took(3));
-    assert!(rt; small.write(b"\nb") == WriteAnswer::Down);
-    assert!(rt; small.write(b"") == WriteAnswer::Took(0));
+    assert!(rt; small.write(b"a\n\n\nb") == Ok(3));
+    assert!(rt; small.write(b"\nb") == Err(WriteError::Down));
+    assert!(rt; small.write(b"") == Ok(0));
     assert_eq!(rt; picture(heap, &small)?.as_str(), "2,0,0 |a....|.....|.....");
-    assert!(rt; small.write(b"abcdefg") == WriteAnswer::Took(5));
-    assert!(rt; small.write(b"f") == WriteAnswer::Down);
-    assert!(rt; small.write(b"\rx") == WriteAnswer::Took(2));
+    assert!(rt; small.write(b"abcdefg") == Ok(5));
+    assert!(rt; small.write(b"f") == Err(WriteError::Down));
+    assert!(rt; small.write(b"\rx") == Ok(2));
     assert_eq!(rt; picture(heap, &small)?.as_str(), "2,1,0 |a....|.....|xbcde");
     Ok(())
 }
@@ -46,11 +46,11 @@ fn cells_given(rt: HostRuntime) -> Result<(), Fail> {
 fn full_record(rt: HostRuntime) -> Result<(), Fail> {
     let heap = rt.alloc();
     let mut log = Record::new(Latin, vec![in heap; 0; 4]?, window()?);
-    assert!(rt; log.write(b"abc") == WriteAnswer::Took(3));
-    assert!(rt; log.write(b"") == WriteAnswer::Took(0));
-    assert!(rt; log.write(b"de") == WriteAnswer::Took(1));
-    assert!(rt; log.write(b"e") == WriteAnswer::Down);
-    assert!(rt; log.write(b"") == WriteAnswer::Took(0));
+    assert!(rt; log.write(b"abc") == Ok(3));
+    assert!(rt; log.write(b"") == Ok(0));
+    assert!(rt; log.write(b"de") == Ok(1));
+    assert!(rt; log.write(b"e") == Err(WriteError::Down));
+    assert!(rt; log.write(b"") == Ok(0));
     assert!(rt; log.bytes() == b"abcd".as_slice());
     match write_all(&mut log, b"xy") {
         Ok(()) => Err(Fail::new("a full record took bytes")),
@@ -58,7 +58,7 @@ fn full_record(rt: HostRuntime) -> Result<(), Fail> {
             assert!(rt;
                 broken.fault.number() == 8
                     && broken.taken == 0
-                    && broken.answer == WriteAnswer::Down
+                    && broken.answer == Err(WriteError::Down)
             );
             Ok(())
         },
@@ -71,8 +71,8 @@ fn pile_of_pacers(rt: HostRuntime) -> Result<(), Fail> {
     let heap = rt.alloc();
     let log = Record::new(Latin, vec![in heap; 0; 50]?, window()?);
     let mut pile = Pacer::new(Pacer::new(log));
-    assert!(rt; pile.write(&[97; 40]) == WriteAnswer::Took(32));
-    assert!(rt; pile.write(&[98; 10]) == WriteAnswer::Took(10));
+    assert!(rt; pile.write(&[97; 40]) == Ok(32));
+    assert!(rt; pile.write(&[98; 10]) == Ok(10));
     match write_all(&mut pile, &[99; 40]) {
         Ok(()) => Err(Fail::new("a full record took bytes")),
         Err(broken) => {
@@ -95,7 +95,7 @@ fn interruptions(rt: HostRuntime) -> Result<(), Fail> {
             assert!(rt;
                 broken.fault.number() == 9
                     && broken.taken == 0
-                    && broken.answer == WriteAnswer::Interrupted
+                    && broken.answer == Err(WriteError::Interrupted)
                     && deaf.calls == 8
             );
             Ok(())
