@@ -1,4 +1,5 @@
 // The first and the last character of each range, and the places between characters.
+use std::alloc::AllocError;
 use std::test::Fail;
 use text::decode::{char_at, is_control, is_good};
 use text::refusal::Refusal;
@@ -67,9 +68,13 @@ const REFUSALS: [(Refusal, u8, &str); 7] = [
 ];
 
 #[test]
-fn refusals_have_numbers_and_words(rt: HostRuntime) {
+fn refusals_have_numbers_and_words(rt: HostRuntime) -> Result<(), AllocError> {
     for (refusal, number, word) in REFUSALS {
-        assert_eq!(rt; refusal.number(), number);
+        assert_eq!(rt; u8::from(refusal), number);
         assert_eq!(rt; refusal.word(), word);
+        let shown = format!(in rt.alloc(); "{refusal}")?;
+        let expected = format!(in rt.alloc(); "{number} {word}")?;
+        assert!(rt; shown == expected);
     }
+    Ok(())
 }

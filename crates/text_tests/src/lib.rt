@@ -6,4 +6,6 @@ mod damage;
 #[cfg(test)]
 mod edges;
 #[cfg(test)]
+mod lines;
+#[cfg(test)]
 mod styles;

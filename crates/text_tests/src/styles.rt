@@ -1,6 +1,6 @@
 // Style sequences and visible text.
 use text::refusal::Refusal;
-use text::styled::{check_styled, visible_text};
+use text::styled::{check_styled, visible_prompt, visible_text};
 
 // Good styled texts, and what each shows.
 const GOOD: [(&[u8], &[u8]); 7] = [
@@ -35,8 +35,8 @@ fn good_styled_texts_show(rt: HostRuntime) {
     for (bytes, shows) in GOOD {
         let mut out = [b'.'; 16];
         let len = shows.len();
-        assert!(rt; matches!(check_styled(bytes), Ok(n) if n == len));
-        assert!(rt; matches!(visible_text(bytes, &mut out), Ok(n) if n == len));
+        assert_eq!(rt; check_styled(bytes), Ok(len));
+        assert_eq!(rt; visible_text(bytes, &mut out), Ok(len));
         assert!(rt; out.starts_with(shows));
     }
 }
@@ -45,10 +45,10 @@ fn good_styled_texts_show(rt: HostRuntime) {
 fn bad_styled_texts_are_refused(rt: HostRuntime) {
     for bytes in BAD {
         let mut out = [b'.'; 4];
-        assert!(rt; matches!(check_styled(bytes), Err(Refusal::Text)));
-        assert!(rt; matches!(visible_text(bytes, &mut out), Err(Refusal::Text)));
+        assert_eq!(rt; check_styled(bytes), Err(Refusal::Text));
+        assert_eq!(rt; visible_text(bytes, &mut out), Err(Refusal::Text));
         assert!(rt; out == *b"....");
-        assert!(rt; matches!(visible_text(bytes, &mut []), Err(Refusal::Text)));
+        assert_eq!(rt; visible_text(bytes, &mut []), Err(Refusal::Text));
     }
 }
 
@@ -57,12 +57,27 @@ fn bad_styled_texts_are_refused(rt: HostRuntime) {
 fn room(rt: HostRuntime) {
     let bytes = b"\x1b[1m\xc3\xa9\x1b[m!";
     let mut short = [b'.'; 2];
-    assert!(rt; matches!(visible_text(bytes, &mut short), Err(Refusal::Long)));
+    assert_eq!(rt; visible_text(bytes, &mut short), Err(Refusal::Long));
     assert!(rt; short == *b"..");
     let mut exact = [b'.'; 3];
-    assert!(rt; matches!(visible_text(bytes, &mut exact), Ok(3)));
+    assert_eq!(rt; visible_text(bytes, &mut exact), Ok(3));
     assert!(rt; exact == *b"\xc3\xa9!");
     let mut long = [b'.'; 4];
-    assert!(rt; matches!(visible_text(bytes, &mut long), Ok(3)));
+    assert_eq!(rt; visible_text(bytes, &mut long), Ok(3));
     assert!(rt; long == *b"\xc3\xa9!.");
+}
+
+// A prompt is no longer than the place for what it shows, so that one byte more is refused.
+#[test]
+fn prompts(rt: HostRuntime) {
+    let mut out = [b'.'; 4];
+    assert_eq!(rt; visible_prompt(b"\x1b[m>", &mut out), Ok(1));
+    assert!(rt; out == *b">...");
+    assert_eq!(rt; visible_prompt(b"\x1b[m>>", &mut out), Err(Refusal::Prompt));
+    assert_eq!(rt;
+        visible_prompt(b"\x1b[m\x07", &mut out),
+        Err(Refusal::Prompt)
+    );
+    assert_eq!(rt; visible_prompt(b"\t", &mut out), Err(Refusal::Prompt));
+    assert!(rt; out == *b">...");
 }
