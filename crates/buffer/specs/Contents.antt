@@ -1,5 +1,5 @@
 -- What stands in a buffer, and what changes it. Assumes nothing.
-use Rattle.std.specs.Prelude.{◌≡◌, ℕ, ◌<◌, ◌≤◌, List, length, take, Ok, Err, Result}
+use Rattle.std.specs.Prelude.{◌≡◌, ℕ, ◌<◌, ◌≤◌, List, ◌++◌, length, take, drop, Some, None, Option, Ok, Err, Result}
 use Rattle.buffer.specs.declared.buffer.Buffer.{Buffer}
 use Rattle.buffer.specs.declared.buffer.Full.{Full}
 
@@ -16,3 +16,12 @@ Becomes {N} bytes before (Err _) after = (N < length bytes) × (after ≡ before
 abbrev pub Fills : {N : ℕ} → List ℕ → Result (Buffer N) Full → Type 0
 Fills {N} bytes (Ok b) = (length bytes ≤ N) × (contents b ≡ bytes)
 Fills {N} bytes (Err _) = N < length bytes
+
+-- the room behind the bytes
+abbrev pub spare : {N : ℕ} → Buffer N → List ℕ
+spare b = drop b.len b.memory
+
+-- so many bytes of the room come behind the others, or none
+abbrev pub Writes : List ℕ → List ℕ → Option ℕ → List ℕ → Type 0
+Writes room before (Some n) after = after ≡ before ++ take n room
+Writes room before None after = after ≡ before

@@ -3,6 +3,7 @@ ghost use Rattle.std.specs.Prelude.{◌≡◌, ◌≤◌, length};
 
 mod making;
 mod reading;
+mod spare;
 mod writing;
 
 // At most `N` bytes: those in the first `len` bytes of the memory.
