@@ -1,7 +1,7 @@
 -- The search for a bracket's partner, index by index. Assumes nothing.
-use Rattle.std.specs.Prelude.{◌≡◌, ℕ, zero, suc, ◌+◌, ◌-◌, ◌<◌, ◌≤◌, Bool, true, false, List, reverse, length, take, Some, None, ◌≢◌, nat_eq, slice_index, slice_index_or, refl}
+use Rattle.std.specs.Prelude.{◌≡◌, ℕ, zero, suc, ◌+◌, ◌-◌, ◌<◌, ◌≤◌, Bool, true, false, cond, List, ◌==◌, reverse, length, take, Some, None, ◌≢◌, nat_eq, slice_index, slice_index_or, refl}
 use Rattle.std.proofs.Common.{sym, ap, ◌∙◌, arith, add-one, length-take, below_more}
-use Rattle.std.proofs.lemmas.Bool.{cond-true, cond-false, eq-eqb, ne_eqb}
+use Rattle.std.proofs.lemmas.Bool.{cond-true, cond-false, eq-eqb, ne_eqb, eqb-true, eqb-false}
 use Rattle.std.proofs.lemmas.Bool.Decides.{nat_tests}
 use Rattle.std.proofs.lemmas.List.{get_or-reverse, get_or-take, length-reverse, length-take-le}
 use Rattle.std.proofs.lemmas.List.Sums.{count_by_more_yes, count_by_more_no, count_by-le-length}
@@ -29,6 +29,10 @@ opening-apart b e h = grind (arith, nat_tests)
 
 pub closing-apart : (b : ℕ) → is_close b ≡ true → partner b ≢ b
 closing-apart b e h = grind (arith, nat_tests)
+
+-- how many brackets of a kind have no partner yet behind one more byte
+abbrev pub left_behind : ℕ → ℕ → ℕ → ℕ
+left_behind b n x = cond (x == partner b) (n - 1) (cond (x == b) (n + 1) n)
 
 -- so many brackets are open after the first bytes, and nothing has balanced
 pub record Searching (b : ℕ) (bs : List ℕ) (i unmatched : ℕ) : Type 0 where
@@ -92,6 +96,26 @@ module _ {b : ℕ} {bs : List ℕ} {i u : ℕ} (s : Searching b bs i u) where
           let after = after-partner in
           let t : balances b (take (i + 1) bs) ≡ true = eq-eqb _ _ (omega arith) in
           least-is (λ k. balances b (take (suc k) bs)) (length bs) i within (rw add-one at t) s.none_yet
+
+  -- the same, by how many are left behind the byte
+  module _ (within : i < length bs) (apart : partner b ≢ b) {x v : ℕ} (is : x ≡ slice_index bs i) (left : v ≡ left_behind b u x) where
+    -- some are left
+    pub left-more : {j : ℕ} → (v ≢ 0) → j ≡ i + 1 → Searching b bs j v
+    left-more {j} some next = by (x == partner b) (x == b) refl refl left
+      where
+        by : (t r : Bool) → (x == partner b) ≡ t → (x == b) ≡ r → v ≡ cond t (u - 1) (cond r (u + 1) u) → Searching b bs j v
+        by true r p q e = partner-more within refl apart (sym is ∙ eqb-true x (partner b) p) (λ z. some (e ∙ z)) next e
+        by false true p q e = own-more within refl (λ z. eqb-false x (partner b) p (is ∙ z)) (sym is ∙ eqb-true x b q) next e
+        by false false p q e = other-more within refl (λ z. eqb-false x (partner b) p (is ∙ z)) (λ z. eqb-false x b q (is ∙ z)) next e
+
+    -- none is left, so the byte is the partner
+    pub left-none : v ≡ 0 → (partner_index b bs ≡ Some i) × (x ≡ partner b)
+    left-none none = by (x == partner b) (x == b) refl refl left
+      where
+        by : (t r : Bool) → (x == partner b) ≡ t → (x == b) ≡ r → v ≡ cond t (u - 1) (cond r (u + 1) u) → (partner_index b bs ≡ Some i) × (x ≡ partner b)
+        by true r p q e = (partner-found within refl apart (sym is ∙ eqb-true x (partner b) p) (sym e ∙ none), eqb-true x (partner b) p)
+        by false true p q e = absurd (omega arith)
+        by false false p q e = absurd (let some = s.positive in omega arith)
 
 -- the bytes before a position, the nearest first
 module _ (line : List ℕ) (pos : ℕ) (within : pos ≤ length line) where

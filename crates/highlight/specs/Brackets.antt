@@ -2,6 +2,8 @@
 use Rattle.std.specs.Prelude.{◌≡◌, ℕ, zero, suc, ◌+◌, ◌-◌, ◌<◌, ◌≤◌, Bool, true, false, cond, ◌&&◌, ◌||◌, List, reverse, length, take, drop, Some, None, count_by, Option, ◌==◌, ◌≢◌, nat_eq, nat_le, nat_lt, slice_index, slice_index_or}
 use Rattle.std.specs.Option.{option_map}
 use Rattle.highlight.specs.declared.brackets.Bracket.{Bracket}
+use Rattle.highlight.specs.declared.brackets.BracketKind.{BracketKind}
+use Rattle.highlight.specs.declared.brackets.BracketKind.TheVariants.{Opening, Closing}
 
 -- an opening bracket: ( [ {
 abbrev pub is_open : ℕ → Bool
@@ -15,6 +17,10 @@ is_close b = b == 41 || (b == 93 || b == 125)
 abbrev pub partner : ℕ → ℕ
 partner b =
     cond (b == 40) 41 (cond (b == 41) 40 (cond (b == 91) 93 (cond (b == 93) 91 (cond (b == 123) 125 (cond (b == 125) 123 b)))))
+
+-- the kind of a byte, if it is a bracket
+abbrev pub bracket_kind : ℕ → Option BracketKind
+bracket_kind b = cond (is_open b) (Some Opening) (cond (is_close b) (Some Closing) None)
 
 -- the number of a bracket: 1 an opening one, whose partner is looked for behind it; 2 a closing one, whose partner is looked for before it; 0 no bracket
 abbrev pub bracket_number : Bracket → ℕ

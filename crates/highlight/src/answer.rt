@@ -9,22 +9,33 @@ use crate::brackets::Bracket;
 const ALLOWANCE: usize = 256;
 
 // Whether a place is long enough for every answer to a text.
-pub(crate) fn has_room(text: &[u8], out: &[u8]) -> bool
+fn has_room(text: &[u8], out: &[u8]) -> bool
     ensures { result ≡ nat_le (length text.now + 256) (length out.now) }
 {
     text.len() + ALLOWANCE <= out.len()
 }
 
-// Writes bytes at an index of a place, and answers the index behind them.
-pub(crate) fn put(out: &mut [u8], at: usize, bytes: &[u8]) -> usize
-    requires { at + length bytes.now ≤ length out.old }
-    ensures end { result ≡ at + length bytes.now }
-    ensures front { take result out.new ≡ take at out.old ++ bytes.now }
-    ensures rest { drop result out.new ≡ drop result out.old }
-{
-    let end = at + bytes.len();
-    out[at..end].copy_from_slice(bytes);
-    end
+// An answer that grows from the front of the place that is lent for it.
+#[derive(Drop)]
+struct Answer<'a> {
+    out: &'a mut [u8],
+    len: usize,
+}
+
+impl Answer<'_> {
+    // Adds bytes to the answer's end.
+    fn push(&mut self, bytes: &[u8])
+        requires { self.old.len + length bytes.now ≤ length self.old.out.now }
+        ensures same_place { self.new.out.ghost_name ≡ self.old.out.ghost_name }
+        ensures len { self.new.len ≡ self.old.len + length bytes.now }
+        ensures front { take self.new.len self.new.out.now ≡ take self.old.len self.old.out.now ++ bytes.now }
+        ensures rest { drop self.new.len self.new.out.now ≡ drop self.new.len self.old.out.now }
+        ensures long { length self.new.out.now ≡ length self.old.out.now }
+    {
+        let end = self.len + bytes.len();
+        self.out[self.len..end].copy_from_slice(bytes);
+        self.len = end;
+    }
 }
 
 // Answers a text as it is.
@@ -34,7 +45,8 @@ pub(crate) fn answer_plain(text: &[u8], out: &mut [u8]) -> Option<usize>
     if !has_room(text, out) {
         return None;
     }
-    Some(put(out, 0, text))
+    out[..text.len()].copy_from_slice(text);
+    Some(text.len())
 }
 
 // Answers a text with the bracket at an index of it lit.
@@ -45,10 +57,11 @@ pub(crate) fn answer_lit(text: &[u8], bracket: Bracket, out: &mut [u8]) -> Optio
     if !has_room(text, out) {
         return None;
     }
-    let at = bracket.at;
-    let n = put(out, 0, &text[0..at]);
-    let n = put(out, n, b"\x1b[1;34m");
-    let n = put(out, n, &[bracket.byte]);
-    let n = put(out, n, b"\x1b[0m");
-    Some(put(out, n, &text[at + 1..]))
+    let mut answer = Answer { out, len: 0 };
+    answer.push(&text[..bracket.at]);
+    answer.push(b"\x1b[1;34m");
+    answer.push(&[bracket.byte]);
+    answer.push(b"\x1b[0m");
+    answer.push(&text[bracket.at + 1..]);
+    Some(answer.len)
 }

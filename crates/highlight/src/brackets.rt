@@ -1,6 +1,30 @@
 // Brackets of a line, and their partners.
-ghost use Rattle.std.specs.Prelude.{◌≡◌, ℕ, ◌+◌, ◌-◌, ◌<◌, ◌≤◌, true, length};
-ghost use Rattle.highlight.specs.Brackets.{bracket_number, is_open, is_close, partner, checked, last_closing, partner_ahead, partner_before, matching, Matched};
+ghost use Rattle.std.specs.Prelude.{◌≡◌, ℕ, ◌+◌, ◌-◌, ◌<◌, ◌≤◌, ◌==◌, true, length};
+ghost use Rattle.highlight.specs.Brackets.{bracket_number, bracket_kind, is_open, is_close, partner, checked, last_closing, partner_ahead, partner_before, matching, Matched};
+ghost use Rattle.highlight.specs.Balances.{left_behind};
+ghost use Rattle.highlight.specs.Lighting.{to_light};
+
+// What a bracket does to the bytes that follow it.
+#[derive(Clone, Copy, PartialEq, Eq, Debug)]
+pub enum BracketKind {
+    // its partner stands behind it
+    Opening,
+    // its partner stands before it
+    Closing,
+}
+
+impl BracketKind {
+    // The kind of a byte, if it is a bracket.
+    pub fn of(byte: u8) -> Option<Self>
+        ensures { result ≡ bracket_kind byte }
+    {
+        match byte {
+            b'{' | b'[' | b'(' => Some(BracketKind::Opening),
+            b'}' | b']' | b')' => Some(BracketKind::Closing),
+            _ => None,
+        }
+    }
+}
 
 // A bracket and its index in a line.
 #[derive(Clone, Copy, PartialEq, Eq, Debug)]
@@ -14,12 +38,10 @@ impl Bracket {
     pub fn number(self) -> u8
         ensures { result ≡ bracket_number self }
     {
-        if is_open_bracket(self.byte) {
-            1
-        } else if is_close_bracket(self.byte) {
-            2
-        } else {
-            0
+        match BracketKind::of(self.byte) {
+            Some(BracketKind::Opening) => 1,
+            Some(BracketKind::Closing) => 2,
+            None => 0,
         }
     }
 }
@@ -39,33 +61,15 @@ fn matching_bracket(bracket: u8) -> u8
     }
 }
 
-// Whether a byte is an opening bracket.
-fn is_open_bracket(bracket: u8) -> bool
-    ensures { result ≡ is_open bracket }
-{
-    matches!(bracket, b'{' | b'[' | b'(')
-}
-
-// Whether a byte is a closing bracket.
-fn is_close_bracket(bracket: u8) -> bool
-    ensures { result ≡ is_close bracket }
-{
-    matches!(bracket, b'}' | b']' | b')')
-}
-
 // The last byte of a line, if it is a closing bracket.
 fn last_closing(line: &[u8]) -> Option<Bracket>
     ensures { result ≡ last_closing line.now }
 {
-    if line.is_empty() {
-        return None;
-    }
-    let at = line.len() - 1;
-    let byte = line[at];
-    if is_close_bracket(byte) {
-        Some(Bracket { byte, at })
-    } else {
-        None
+    let (&byte, front) = line.split_last()?;
+    let at = front.len();
+    match BracketKind::of(byte) {
+        Some(BracketKind::Closing) => Some(Bracket { byte, at }),
+        _ => None,
     }
 }
 
@@ -77,49 +81,72 @@ pub fn check_bracket(line: &[u8], pos: usize) -> Option<Bracket>
         return last_closing(line);
     }
     let mut at = pos;
-    let answer = loop {
+    loop {
         let byte = line[at];
-        if is_close_bracket(byte) {
-            break if at == 0 {
-                None
-            } else {
-                Some(Bracket { byte, at })
-            };
+        match BracketKind::of(byte) {
+            Some(BracketKind::Closing) => break (at > 0).then_some(Bracket { byte, at }),
+            Some(BracketKind::Opening) => {
+                break (at + 1 < line.len()).then_some(Bracket { byte, at });
+            }
+            None if at < pos || at == 0 => break None,
+            None => at -= 1,
         }
-        if is_open_bracket(byte) {
-            break if at + 1 == line.len() {
-                None
-            } else {
-                Some(Bracket { byte, at })
-            };
-        }
-        if at < pos || at == 0 {
-            break None;
-        }
-        at -= 1;
-    };
-    answer
+    }
 }
 
-// The partner of the opening bracket at `pos`: its own kind is counted up and the partner down.
+// How many brackets of a kind have no partner yet in a search.
+#[derive(Clone, Copy)]
+struct Unmatched {
+    bracket: u8,
+    counterpart: u8,
+    count: usize,
+    ghost goes_with: { counterpart ≡ partner bracket },
+}
+
+impl Unmatched {
+    // The one bracket whose partner is looked for.
+    fn new(bracket: u8) -> Self
+        ensures bracket { result.bracket ≡ bracket }
+        ensures one { result.count ≡ 1 }
+    {
+        let counterpart = matching_bracket(bracket);
+        Unmatched {
+            bracket,
+            counterpart,
+            count: 1,
+        }
+    }
+
+    // Counts one more byte, its own kind up and the partner down: whether none is left.
+    fn meets(&mut self, byte: u8) -> bool
+        requires some { 0 < self.old.count }
+        requires few { self.old.count < usize.MAX }
+        ensures bracket { self.new.bracket ≡ self.old.bracket }
+        ensures count { self.new.count ≡ left_behind self.old.bracket self.old.count byte }
+        ensures none { result ≡ (self.new.count == 0) }
+    {
+        if byte == self.counterpart {
+            self.count -= 1;
+        } else if byte == self.bracket {
+            self.count += 1;
+        }
+        self.count == 0
+    }
+}
+
+// The partner of the opening bracket at `pos`, looked for towards the end of the line.
 fn find_forward(line: &[u8], pos: usize, bracket: u8) -> Option<Bracket>
     requires within { pos < length line.now }
     requires opening { is_open bracket ≡ true }
     ensures { result ≡ partner_ahead line.now pos bracket }
 {
-    let matching = matching_bracket(bracket);
-    let mut unmatched: usize = 1;
+    let mut unmatched = Unmatched::new(bracket);
     for (i, b) in line[pos + 1..].iter().enumerate() {
-        if *b == matching {
-            unmatched -= 1;
-            if unmatched == 0 {
-                return Some(Bracket {
-                    byte: matching,
-                    at: pos + 1 + i,
-                });
-            }
-        } else if *b == bracket {
-            unmatched += 1;
+        if unmatched.meets(*b) {
+            return Some(Bracket {
+                byte: *b,
+                at: pos + 1 + i,
+            });
         }
     }
     None
@@ -131,17 +158,10 @@ fn find_backward(line: &[u8], pos: usize, bracket: u8) -> Option<Bracket>
     requires closing { is_close bracket ≡ true }
     ensures { result ≡ partner_before line.now pos bracket }
 {
-    let matching = matching_bracket(bracket);
-    let mut unmatched: usize = 1;
-    for at in (0..pos).rev() {
-        let b = line[at];
-        if b == matching {
-            unmatched -= 1;
-            if unmatched == 0 {
-                return Some(Bracket { byte: matching, at });
-            }
-        } else if b == bracket {
-            unmatched += 1;
+    let mut unmatched = Unmatched::new(bracket);
+    for (at, b) in line[..pos].iter().enumerate().rev() {
+        if unmatched.meets(*b) {
+            return Some(Bracket { byte: *b, at });
         }
     }
     None
@@ -152,11 +172,20 @@ pub fn find_matching_bracket(line: &[u8], pos: usize, bracket: u8) -> Option<Bra
     ensures value { result ≡ matching line.now pos bracket }
     ensures matched { Matched line.now pos bracket result }
 {
-    if is_open_bracket(bracket) && pos < line.len() {
-        find_forward(line, pos, bracket)
-    } else if is_close_bracket(bracket) && pos <= line.len() {
-        find_backward(line, pos, bracket)
-    } else {
-        None
+    match BracketKind::of(bracket) {
+        Some(BracketKind::Opening) if pos < line.len() => find_forward(line, pos, bracket),
+        Some(BracketKind::Closing) if pos <= line.len() => find_backward(line, pos, bracket),
+        _ => None,
     }
+}
+
+// The bracket to light in a line: the partner of the remembered one; none in a line of one byte or none.
+pub fn bracket_to_light(line: &[u8], remembered: Option<Bracket>) -> Option<Bracket>
+    ensures { result ≡ to_light remembered line.now }
+{
+    if line.len() <= 1 {
+        return None;
+    }
+    let bracket = remembered?;
+    find_matching_bracket(line, bracket.at, bracket.byte)
 }

@@ -5,7 +5,7 @@ ghost use Rattle.highlight.specs.Shown.{memory-shown, same-shown};
 ghost use Rattle.text.proofs.Styling.{spells-styled};
 
 use crate::answer::{answer_lit, answer_plain};
-use crate::brackets::{Bracket, check_bracket, find_matching_bracket};
+use crate::brackets::{Bracket, bracket_to_light, check_bracket};
 use crate::highlight::{CmdKind, Highlighter};
 
 // Lights the partner of the bracket at the cursor.
@@ -21,17 +21,6 @@ impl MatchingBracketHighlighter {
         ensures { result.bracket ≡ None }
     {
         MatchingBracketHighlighter { bracket: None }
-    }
-
-    // The bracket to light in a line.
-    fn bracket_to_light(&self, line: &[u8]) -> Option<Bracket>
-        ensures { result ≡ to_light self.now.bracket line.now }
-    {
-        if line.len() <= 1 {
-            return None;
-        }
-        let bracket = self.bracket?;
-        find_matching_bracket(line, bracket.at, bracket.byte)
     }
 }
 
@@ -51,16 +40,18 @@ impl Highlighter for MatchingBracketHighlighter {
     ghost hint_shown = { λ h hint cs lit s e. same-shown (spells-styled hint cs s) e };
 
     fn highlight(&self, line: &[u8], _pos: usize, out: &mut [u8]) -> Option<usize> {
-        match self.bracket_to_light(line) {
+        match bracket_to_light(line, self.bracket) {
             Some(bracket) => answer_lit(line, bracket, out),
             None => answer_plain(line, out),
         }
     }
 
+    // not a body of the trait's: tried, and its proof knows nothing of what an impl may answer
     fn highlight_prompt(&self, prompt: &[u8], _default: bool, out: &mut [u8]) -> Option<usize> {
         answer_plain(prompt, out)
     }
 
+    // not a body of the trait's, as above
     fn highlight_hint(&self, hint: &[u8], out: &mut [u8]) -> Option<usize> {
         answer_plain(hint, out)
     }

@@ -29,10 +29,12 @@ impl Highlighter for PlainHighlighter {
         answer_plain(line, out)
     }
 
+    // not a body of the trait's: tried, and its proof knows nothing of what an impl may answer
     fn highlight_prompt(&self, prompt: &[u8], _default: bool, out: &mut [u8]) -> Option<usize> {
         answer_plain(prompt, out)
     }
 
+    // not a body of the trait's, as above
     fn highlight_hint(&self, hint: &[u8], out: &mut [u8]) -> Option<usize> {
         answer_plain(hint, out)
     }
