@@ -1,28 +1,13 @@
 -- A script of captions, one a line, and the hint that it has for a line. Assumes nothing.
-use Rattle.std.specs.Prelude.{◌≡◌, ℕ, ◌<◌, Bool, true, cond, not, ◌&&◌, ◌||◌, List, [], ◌∷◌, length, take, drop, Some, None, Option, ◌==◌, nat_le, nat_lt}
-use Rattle.std.proofs.Math.Utf8.{encodes, scalar}
-use Rattle.std.specs.Str.{chars, bytes_eq}
-use Rattle.text.specs.Characters.{is_control}
+use Rattle.std.specs.Prelude.{◌≡◌, ℕ, ◌<◌, Bool, cond, ◌&&◌, List, length, take, drop, find, Some, None, Option, ◌==◌, nat_le, nat_lt}
+use Rattle.std.specs.List.{slice_split}
+use Rattle.std.specs.Str.{bytes_eq}
+use Rattle.text.specs.Tests.{good_bytes}
 use Rattle.text.specs.Texts.{GoodText}
-
--- a byte put in front of the first of some pieces
-abbrev pub prefixed : ℕ → List (List ℕ) → List (List ℕ)
-prefixed b [] = (b ∷ []) ∷ []
-prefixed b (p ∷ ps) = (b ∷ p) ∷ ps
 
 -- the captions of a script: its pieces between LFs
 abbrev pub captions_of : List ℕ → List (List ℕ)
-captions_of [] = [] ∷ []
-captions_of (b ∷ bs) = cond (b == 10) ([] ∷ captions_of bs) (prefixed b (captions_of bs))
-
--- whether a text may hold each of some characters
-abbrev pub are_good : List ℕ → Bool
-are_good [] = true
-are_good (c ∷ cs) = (scalar c && (c == 10 || not (is_control c))) && are_good cs
-
--- whether bytes are a good text: their characters are good, and spell them
-abbrev pub is_good_text : List ℕ → Bool
-is_good_text bs = are_good (chars bs) && bytes_eq (encodes (chars bs)) bs
+captions_of script = slice_split (λ b. b == 10) script
 
 -- a caption goes on from a line: it is a good text, begins with the line, and has a rest, which is a good text too, so that the line ends where a character does
 pub record Continues (line caption : List ℕ) : Type 0 where
@@ -34,12 +19,11 @@ pub record Continues (line caption : List ℕ) : Type 0 where
 -- whether it does
 abbrev pub goes_on : List ℕ → List ℕ → Bool
 goes_on line caption =
-    (is_good_text caption && bytes_eq (take (length line) caption) line) && (nat_lt (length line) (length caption) && is_good_text (drop (length line) caption))
+    (good_bytes caption && bytes_eq (take (length line) caption) line) && (nat_lt (length line) (length caption) && good_bytes (drop (length line) caption))
 
 -- the first of some captions that goes on from a line
 abbrev pub first_continuing : List ℕ → List (List ℕ) → Option (List ℕ)
-first_continuing line [] = None
-first_continuing line (c ∷ cs) = cond (goes_on line c) (Some c) (first_continuing line cs)
+first_continuing line captions = find (goes_on line) captions
 
 -- the rest of a caption behind a line, unless it is longer than 1,024 bytes
 abbrev pub rest_behind : List ℕ → Option (List ℕ) → Option (List ℕ)

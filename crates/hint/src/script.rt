@@ -1,51 +1,30 @@
 // The hinter that has a script of captions.
-ghost use Rattle.std.specs.Prelude.{◌≡◌, ℕ, ◌<◌, ◌≤◌, length, take, drop, IfSome, Decides, ◌≢◌, slice_index};
+ghost use Rattle.std.specs.Prelude.{◌≡◌, ◌≤◌, length, take, drop, IfSome, Decides};
 ghost use Rattle.std.specs.Option.{option_map};
 ghost use Rattle.hint.specs.Hints.{GoodHint};
 ghost use Rattle.hint.specs.Scripts.{captions_of, Continues, goes_on, first_continuing, script_hint};
 
 use crate::hint::{Hinter, MAX_HINT};
-use text::texts::{check_text, is_boundary};
+use text::texts::check_text;
 
 // Whether a caption goes on from a line: it is a good text, begins with the line, and has a rest that is a good text.
 fn continues(caption: &[u8], line: &[u8]) -> bool
     ensures rule { Decides result (Continues line.now caption.now) }
     ensures value { result ≡ goes_on line.now caption.now }
 {
-    if caption.len() <= line.len() || !caption.starts_with(line) {
+    let Some(rest) = caption.strip_prefix(line) else {
         return false;
-    }
-    is_boundary(caption, line.len()) && check_text(caption).is_ok()
-}
-
-// The index of the first LF, or the length where there is none.
-fn caption_end(script: &[u8]) -> usize
-    ensures within { result ≤ length script.now }
-    ensures before { (k : ℕ) → k < result → slice_index script.now k ≢ 10 }
-    ensures found { result < length script.now → slice_index script.now result ≡ 10 }
-{
-    for (i, b) in script.iter().enumerate() {
-        if *b == b'\n' {
-            return i;
-        }
-    }
-    script.len()
+    };
+    !rest.is_empty() && check_text(rest).is_ok() && check_text(caption).is_ok()
 }
 
 // The first caption of a script that goes on from a line.
 fn first_continuing<'a>(script: &'a [u8], line: &[u8]) -> Option<&'a [u8]>
     ensures { option_map (λ x. x.now) result ≡ first_continuing line.now (captions_of script.now) }
 {
-    let mut start = 0;
-    while start < script.len() {
-        let end = start + caption_end(&script[start..]);
-        let caption = &script[start..end];
-        if continues(caption, line) {
-            return Some(caption);
-        }
-        start = end + 1;
-    }
-    None
+    script
+        .split(|byte| *byte == b'\n')
+        .find(|caption| continues(caption, line))
 }
 
 // What a script has for a line whose end is the position: the rest of the first caption that goes on from it.
@@ -56,13 +35,8 @@ fn script_hint<'a>(script: &'a [u8], line: &[u8], pos: usize) -> Option<&'a [u8]
     if line.is_empty() || pos != line.len() {
         return None;
     }
-    let caption = first_continuing(script, line)?;
-    let rest = &caption[line.len()..];
-    if rest.len() <= MAX_HINT {
-        Some(rest)
-    } else {
-        None
-    }
+    let rest = first_continuing(script, line)?.strip_prefix(line)?;
+    (rest.len() <= MAX_HINT).then_some(rest)
 }
 
 // Writes a hint to the front of a place, and answers its length.
@@ -72,9 +46,8 @@ fn write_hint(hint: &[u8], out: &mut [u8; MAX_HINT]) -> usize
     ensures front { take result out.new ≡ hint.now }
     ensures rest { drop result out.new ≡ drop result out.old }
 {
-    let n = hint.len();
-    out[0..n].copy_from_slice(hint);
-    n
+    out[..hint.len()].copy_from_slice(hint);
+    hint.len()
 }
 
 // Offers the rest of the first caption that goes on from the line.
