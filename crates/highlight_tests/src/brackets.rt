@@ -64,44 +64,28 @@ const ROWS: [(&[u8], &[u8], &[u8]); 53] = [
     (b"(\xc3\xa9)", b"00-333", b"33-000"),
 ];
 
-// The index that a row gives for a position.
-fn index_at(digits: &[u8], pos: usize) -> Option<usize> {
-    if pos >= digits.len() {
-        return None;
-    }
-    let digit = digits[pos];
-    if digit.is_ascii_digit() {
-        Some((digit - b'0') as usize)
-    } else {
-        None
-    }
+// The index that a digit of a row gives.
+fn index_of(digit: u8) -> Option<usize> {
+    char::from(digit).to_digit(10).map(|index| index as usize)
 }
 
-// Whether an answer is the line with the byte at an index lit.
-fn is_lit(answer: &[u8], line: &[u8], at: usize) -> bool {
-    if at >= line.len() {
-        return false;
-    }
-    let Some(rest) = answer.strip_prefix(&line[0..at]) else {
-        return false;
-    };
-    let Some(rest) = rest.strip_prefix(b"\x1b[1;34m") else {
-        return false;
-    };
-    let Some(rest) = rest.strip_prefix(&line[at..at + 1]) else {
-        return false;
-    };
-    let Some(rest) = rest.strip_prefix(b"\x1b[0m") else {
-        return false;
-    };
-    rest == &line[at + 1..]
+// Whether an answer is the line with the byte at an index lit; none where it is another before the end.
+fn is_lit(answer: &[u8], line: &[u8], at: usize) -> Option<bool> {
+    let (front, back) = line.split_at_checked(at)?;
+    let (byte, back) = back.split_first()?;
+    let rest = answer
+        .strip_prefix(front)?
+        .strip_prefix(b"\x1b[1;34m")?
+        .strip_prefix(&[*byte])?
+        .strip_prefix(b"\x1b[0m")?;
+    Some(rest == back)
 }
 
 // Whether the bracket that is found is the one at an index of the line.
 fn is_found(found: Option<Bracket>, line: &[u8], at: Option<usize>) -> bool {
     match (found, at) {
         (None, None) => true,
-        (Some(bracket), Some(i)) => bracket.at == i && i < line.len() && bracket.byte == line[i],
+        (Some(bracket), Some(i)) => bracket.at == i && line.get(i) == Some(&bracket.byte),
         _ => false,
     }
 }
@@ -110,24 +94,24 @@ fn is_found(found: Option<Bracket>, line: &[u8], at: Option<usize>) -> bool {
 fn is_answered(line: &[u8], pos: usize, at: Option<usize>, lit: Option<usize>) -> bool {
     let mut highlighter = MatchingBracketHighlighter::new();
     let yes = highlighter.highlight_char(line, pos, CmdKind::MoveCursor);
+    if yes != at.is_some() || !is_found(check_bracket(line, pos), line, at) {
+        return false;
+    }
     let mut out = [0u8; 300];
     let Some(n) = highlighter.highlight(line, pos, &mut out) else {
         return false;
     };
-    if n > out.len() || yes != at.is_some() || !is_found(check_bracket(line, pos), line, at) {
-        return false;
-    }
-    match lit {
-        Some(i) => is_lit(&out[0..n], line, i),
-        None => &out[0..n] == line,
-    }
+    out.get(..n).is_some_and(|answer| match lit {
+        Some(i) => is_lit(answer, line, i) == Some(true),
+        None => answer == line,
+    })
 }
 
 // Checks each position of each row.
 fn check_rows(rt: &impl Abort, rows: &[(&[u8], &[u8], &[u8])]) {
     for (line, checks, lights) in rows {
-        for pos in 0..checks.len() {
-            assert!(rt; is_answered(line, pos, index_at(checks, pos), index_at(lights, pos)));
+        for (pos, (check, light)) in checks.iter().zip(*lights).enumerate() {
+            assert!(rt; is_answered(line, pos, index_of(*check), index_of(*light)));
         }
     }
 }

@@ -7,10 +7,8 @@ use highlight::plain::PlainHighlighter;
 // Whether a line is answered with certain bytes.
 fn answers<H: Highlighter>(highlighter: &H, line: &[u8], expected: &[u8]) -> bool {
     let mut out = [0u8; 300];
-    match highlighter.highlight(line, 0, &mut out) {
-        Some(n) => n <= out.len() && &out[0..n] == expected,
-        None => false,
-    }
+    let n = highlighter.highlight(line, 0, &mut out);
+    n.is_some_and(|n| out.get(..n) == Some(expected))
 }
 
 // A bracket that was remembered from a longer line: an opening one is looked from only within the line, a closing one also from its end.
@@ -51,7 +49,7 @@ fn room(rt: HostRuntime) {
         PlainHighlighter.highlight_hint(b"abc", &mut large),
         Some(3)
     );
-    assert!(rt; &large[0..5] == b"abc\x07\x07".as_slice());
+    assert!(rt; &large[..5] == b"abc\x07\x07".as_slice());
 }
 
 #[test]
@@ -64,5 +62,5 @@ fn plain(rt: HostRuntime) {
         plain.highlight_prompt(b"\x1b[1m> ", true, &mut out),
         Some(6)
     );
-    assert!(rt; &out[0..6] == b"\x1b[1m> ".as_slice());
+    assert!(rt; &out[..6] == b"\x1b[1m> ".as_slice());
 }

@@ -8,10 +8,8 @@ const CAPTIONS: &[u8] = b"hello world\nhello there\n\nbad\x01\nbadger\ncaf\xc3\x
 // Whether a hinter has a certain hint, which leaves the rest of the place as it was.
 fn hints<N: Hinter>(hinter: &N, line: &[u8], pos: usize, expected: &[u8]) -> bool {
     let mut out = [7u8; MAX_HINT];
-    match hinter.hint(line, pos, &mut out) {
-        Some(n) => n < MAX_HINT && &out[0..n] == expected && out[n] == 7,
-        None => false,
-    }
+    let n = hinter.hint(line, pos, &mut out);
+    n.is_some_and(|n| out.get(..n) == Some(expected) && out.get(n) == Some(&7))
 }
 
 // Whether a hinter has no hint, and leaves the place as it was.
