@@ -1,31 +1,43 @@
 -- What a grid does in steps. Assumes nothing.
-use Rattle.std.proofs.Common.{◌≡◌, ℕ, ◌+◌, ◌<◌, ◌≤◌, Ok, Err, Result, sym, refl, ap, ◌∙◌, subst, arith}
-use Rattle.screen.specs.Screen.{Screen, Row}
-use Rattle.grid.specs.Meaning.{shown}
-use Rattle.grid.specs.Steps.{drawn, rowed, Does, Tries}
-use Rattle.grid.proofs.Papers.{on_row-same, on_row-none, on_row-twice}
+use Rattle.std.proofs.Common.{◌≡◌, ℕ, ◌+◌, ◌-◌, ◌*◌, ◌<◌, ◌≤◌, Ok, Err, Result, List, length, replicate, vec_items, vec_len, sym, ap, ◌∙◌, subst, le_refl, arith}
+use Rattle.std.proofs.lemmas.List.{with_items_is, length-replicate}
+use Rattle.std.proofs.lemmas.Nat.{mul-le}
+use Rattle.std.specs.Vec.{with_items}
+use borrow.Rule.Slice.PartMut.{mid_of, put_mid, mid_len, same_len_mid}
+use Rattle.screen.specs.Screen.{Screen, Row, on_row, rows_from}
+use Rattle.screen.specs.declared.cells.Cell.{Cell}
+use Rattle.screen.specs.declared.cells.Cell.TheVariants.{Blank}
+use Rattle.grid.specs.Meaning.{shown, row_of, paper_of}
+use Rattle.grid.specs.Steps.{Does, Tries}
+use Rattle.grid.proofs.Papers.{paper-row, paper-rows}
 use Rattle.grid.specs.declared.full.Full.{Full}
 use Rattle.grid.specs.declared.grid.Grid.{Grid}
-
--- one thing and then another
-pub does-then : {W : Type 0} (e f : Screen → Screen) (a b c : Grid W) → Does e a b → Does f b c → Does (λ s. f (e s)) a c
-does-then e f a b c one two = record { shows = two.shows ∙ ap f one.shows; depth = two.depth ∙ one.depth; size = two.size ∙ one.size }
 
 -- the same thing in other words
 pub does-as : {W : Type 0} (e f : Screen → Screen) (a b : Grid W) → e (shown a) ≡ f (shown a) → Does e a b → Does f a b
 does-as e f a b same one = record { shows = one.shows ∙ same; depth = one.depth; size = one.size }
 
--- two changes of one row
-pub rows_then : {W : Type 0} (r : ℕ) (e f : Row → Row) (a b c : Grid W) → Does (rowed r e) a b → Does (rowed r f) b c → Does (rowed r (λ w. f (e w))) a c
-rows_then r e f a b c one two = does-as (λ s. rowed r f (rowed r e s)) (rowed r (λ w. f (e w))) a c (ap (λ p. drawn p (shown a)) (on_row-twice r e f (shown a).pen.paper)) (does-then (rowed r e) (rowed r f) a b c one two)
+-- the cells from a to e, which are those of row r, written over: one row of the paper changed
+pub row-written : {W : Type 0} (s : Grid W) (r : ℕ) (f : Row → Row) (a e : ℕ) (xs ys : List Cell) → xs ≡ vec_items s.cells → a ≡ r * s.size.cols → e ≡ r * s.size.cols + s.size.cols → e ≤ vec_len s.cells → length ys ≡ length (mid_of a (e - a) xs) → row_of ys ≡ f (row_of (mid_of a (e - a) xs)) → paper_of s.size.cols (vec_items (with_items s.cells (put_mid a (e - a) xs ys))) ≡ on_row r f (shown s).pen.paper
+row-written s r f a e xs ys items ea ee within same row =
+    let w = s.size.cols in
+    let size : vec_len s.cells ≡ length xs = s.cells.ok.0 ∙ ap length (sym items) in
+    let whole = mid_len a e xs (omega arith) in
+    ap (paper_of w) (with_items_is s.cells (put_mid a (e - a) xs ys) (same_len_mid a (e - a) xs ys same ∙ sym size))
+    ∙ paper-row w r a (e - a) xs ys ea (omega arith) (omega arith) (same ∙ whole) f row
+    ∙ ap (λ l. on_row r f (paper_of w l)) items
 
--- the same change of a row in other words
-pub row_as : {W : Type 0} (r : ℕ) (e f : Row → Row) (a b : Grid W) → e ((shown a).pen.paper r) ≡ f ((shown a).pen.paper r) → Does (rowed r e) a b → Does (rowed r f) a b
-row_as r e f a b same one = does-as (rowed r e) (rowed r f) a b (ap (λ p. drawn p (shown a)) (on_row-same r e f (shown a).pen.paper same)) one
-
--- a change that changes nothing of the row
-pub row-none : {W : Type 0} (r : ℕ) (f : Row → Row) (a : Grid W) → f ((shown a).pen.paper r) ≡ (shown a).pen.paper r → Does (rowed r f) a a
-row-none r f a same = record { shows = ap (λ p. drawn p (shown a)) (sym (on_row-none r f (shown a).pen.paper same)); depth = refl; size = refl }
+-- the cells from a to e, which are those of the rows from b up to c, blanked: those rows of the paper blanked
+pub rows-written : {W : Type 0} (s : Grid W) (b c a e : ℕ) (xs ys : List Cell) → xs ≡ vec_items s.cells → a ≡ b * s.size.cols → e ≡ c * s.size.cols → 1 ≤ b → b ≤ c → e ≤ vec_len s.cells → ys ≡ replicate (length (mid_of a (e - a) xs)) Blank → paper_of s.size.cols (vec_items (with_items s.cells (put_mid a (e - a) xs ys))) ≡ rows_from b (c - 1) (shown s).pen.paper
+rows-written s b c a e xs ys items ea ee some le within blank =
+    let w = s.size.cols in
+    let size : vec_len s.cells ≡ length xs = s.cells.ok.0 ∙ ap length (sym items) in
+    let forward = mul-le b w c w le (le_refl w) in
+    let whole = mid_len a e xs (omega arith) in
+    let same = ap length blank ∙ length-replicate _ Blank in
+    ap (paper_of w) (with_items_is s.cells (put_mid a (e - a) xs ys) (same_len_mid a (e - a) xs ys same ∙ sym size))
+    ∙ paper-rows w b c a (e - a) xs ys ea (omega arith) (omega arith) (omega arith) (blank ∙ ap (λ n. replicate n Blank) whole)
+    ∙ ap (λ l. rows_from b (c - 1) (paper_of w l)) items
 
 -- what is tried, in other words
 pub tries-as : {W : Type 0} (e f : Screen → Screen) (a b : Grid W) (r : Result (Unit {0}) Full) → e (shown a) ≡ f (shown a) → Tries e a b r → Tries f a b r

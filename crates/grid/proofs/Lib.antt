@@ -1,3 +1,4 @@
+pub mod Parts
 pub mod Papers
 pub mod Rows
 pub mod Doing

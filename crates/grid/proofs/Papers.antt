@@ -1,108 +1,98 @@
 -- A cell of the memory as a cell of the paper, and changes of one row. Assumes nothing.
-use Rattle.std.proofs.Common.{◌≡◌, ℕ, ◌+◌, ◌-◌, ◌*◌, ◌/◌, ◌%◌, ◌<◌, ◌≤◌, Bool, true, false, cond, ◌&&◌, eqb, ltb, leb, ◌⊎◌, List, length, get_or, set, replicate, sym, refl, ap, ◌∙◌, inl, inr, ⊎_elim, le_refl, arith}
-use Rattle.std.proofs.lemmas.List.{get_or-set_same, get_or-set_other, get_or_past, get_or-replicate, length-replicate}
-use Rattle.std.proofs.lemmas.Bool.{cond-true, cond-false, cond_both, ltb-true, ltb-false, eqb-true, eqb-false, eq-eqb, le-ltb, cases_lt}
-use Rattle.std.proofs.lemmas.Nat.{mul-le, mul-add-lt, div-mul-add, mod-mul-add}
+use Rattle.std.proofs.Common.{◌≡◌, ℕ, ◌+◌, ◌-◌, ◌*◌, ◌<◌, ◌≤◌, Bool, true, false, cond, ◌&&◌, eqb, ltb, leb, List, length, get_or, drop, replicate, length-drop, sym, refl, ap, ◌∙◌, ⊎_elim, le_refl, arith}
+use Rattle.std.proofs.lemmas.List.{get_or_past, length-replicate}
+use Rattle.std.proofs.lemmas.Bool.{cond-true, cond-false, cond_both, ltb-true, ltb-false, eqb-true, eqb-false, cases_lt}
+use Rattle.std.proofs.lemmas.Nat.{mul-le, mul-add-lt}
 use Rattle.std.proofs.lemmas.Bool.Decides.{nat_tests}
-use Rattle.screen.specs.Screen.{Row, Paper, blank_row, blank_paper, on_row, rows_from}
+use Rattle.std.proofs.Math.Seq.{length-take-le}
+use borrow.Rule.Slice.PartMut.{mid_of, put_mid}
+use Rattle.screen.specs.Screen.{Row, blank_row, blank_paper, on_row, rows_from}
 use Rattle.screen.specs.declared.cells.Cell.{Cell}
 use Rattle.screen.specs.declared.cells.Cell.TheVariants.{Blank}
-use Rattle.grid.specs.Meaning.{paper_of}
-use Rattle.grid.specs.Steps.{one_cell}
+use Rattle.grid.specs.Meaning.{row_of, paper_of}
+use Rattle.grid.proofs.Parts.{put-below, put-in, put-above, mid-at, alike}
 
--- a place in the cells tells its row and its column
-same_place : (w i j r c : ℕ) → j < w → c < w → i * w + j ≡ r * w + c → (i ≡ r) × (j ≡ c)
-same_place w i j r c hj hc e =
-    (sym (div-mul-add i w j hj) ∙ ap (λ n. n / w) e ∙ div-mul-add r w c hc, sym (mod-mul-add i w j hj) ∙ ap (λ n. n % w) e ∙ mod-mul-add r w c hc)
-
--- a row and a column of the paper lie in the cells
-pub place-within : (w d r c n : ℕ) → d * w ≡ n → r < d → c < w → r * w + c < n
-place-within w d r c n e hr hc = omega (arith, mul-add-lt r w c d hr hc)
-
--- outside the cells the paper is blank
-pub paper-out : (w d r c : ℕ) (cells : List Cell) → d * w ≡ length cells → (d ≤ r) ⊎ (w ≤ c) → paper_of w cells r c ≡ Blank
-paper-out w d r c cells e (inl far) =
-    let past : length cells ≤ r * w + c = omega (arith, mul-le d w r w far (le_refl w)) in
-    cond_both (ltb c w) (get_or cells (r * w + c) Blank) Blank (λ x. x ≡ Blank) (λ _. get_or_past cells (r * w + c) Blank past) (λ _. refl)
-paper-out w d r c cells e (inr far) = cond-false _ _ _ (le-ltb c w far)
-
--- a row chosen, at a column
-cond-app : (b : Bool) (f g : Row) (j : ℕ) → cond b f g j ≡ cond b (f j) (g j)
-cond-app true f g j = refl
-cond-app false f g j = refl
-
-module _ (r : ℕ) where
-  -- what is the same at row r is the same paper
-  pub on_row-same : (f g : Row → Row) (p : Paper) → f (p r) ≡ g (p r) → on_row r f p ≡ on_row r g p
-  unfolding on_row
-  on_row-same f g p e = λ k i. at i (eqb i r) refl k
-    where
-      at : (i : ℕ) (b : Bool) → eqb i r ≡ b → cond b (f (p i)) (p i) ≡ cond b (g (p i)) (p i)
-      at i true t = let same = eqb-true i r t in ap (λ n. f (p n)) same ∙ e ∙ ap (λ n. g (p n)) (sym same)
-      at i false t = refl
-
-  -- a change that changes nothing
-  pub on_row-none : (f : Row → Row) (p : Paper) → f (p r) ≡ p r → on_row r f p ≡ p
-  unfolding on_row
-  on_row-none f p e = λ k i. at i (eqb i r) refl k
-    where
-      at : (i : ℕ) (b : Bool) → eqb i r ≡ b → cond b (f (p i)) (p i) ≡ p i
-      at i true t = let same = eqb-true i r t in ap (λ n. f (p n)) same ∙ e ∙ ap p (sym same)
-      at i false t = refl
-
-  -- two changes of one row
-  pub on_row-twice : (g f : Row → Row) (p : Paper) → on_row r f (on_row r g p) ≡ on_row r (λ w. f (g w)) p
-  unfolding on_row
-  on_row-twice g f p = λ k i. at i (eqb i r) k
-    where
-      at : (i : ℕ) (b : Bool) → cond b (f (cond b (g (p i)) (p i))) (cond b (g (p i)) (p i)) ≡ cond b (f (g (p i))) (p i)
-      at i true = refl
-      at i false = refl
-
-  -- the changed row
-  pub on_row-here : (f : Row → Row) (p : Paper) → on_row r f p r ≡ f (p r)
-  unfolding on_row
-  on_row-here f p = cond-true (eqb r r) (f (p r)) (p r) (eq-eqb r r refl)
-
-module _ (w : ℕ) (cells : List Cell) (r c : ℕ) (x : Cell) (within : r * w + c < length cells) (hc : c < w) where
-  there : (i j : ℕ) → j < w → (b d : Bool) → eqb i r ≡ b → eqb j c ≡ d → get_or (set cells (r * w + c) x) (i * w + j) Blank ≡ cond b (cond d x (get_or cells (i * w + j) Blank)) (get_or cells (i * w + j) Blank)
-  there i j hj true true e f =
-      let place : i * w + j ≡ r * w + c = (λ k. eqb-true i r e k * w + eqb-true j c f k) in
-      ap (λ n. get_or (set cells (r * w + c) x) n Blank) place ∙ get_or-set_same cells (r * w + c) x Blank within
-  there i j hj true false e f = get_or-set_other cells (r * w + c) (i * w + j) x Blank (λ same. eqb-false j c f (same_place w i j r c hj hc same).1)
-  there i j hj false d e f = get_or-set_other cells (r * w + c) (i * w + j) x Blank (λ same. eqb-false i r e (same_place w i j r c hj hc same).0)
-
-  at_place : (i j : ℕ) (b d in_row : Bool) → eqb i r ≡ b → eqb j c ≡ d → ltb j w ≡ in_row → cond in_row (get_or (set cells (r * w + c) x) (i * w + j) Blank) Blank ≡ cond b (cond d x (cond in_row (get_or cells (i * w + j) Blank) Blank)) (cond in_row (get_or cells (i * w + j) Blank) Blank)
-  at_place i j b d true e f t = there i j (ltb-true j w t) b d e f
-  at_place i j true true false e f t = let far = ltb-false j w t in let same = eqb-true j c f in absurd (omega arith)
-  at_place i j true false false e f t = refl
-  at_place i j false d false e f t = refl
-
-  -- a cell written is a cell of the paper changed
-  pub paper-set : paper_of w (set cells (r * w + c) x) ≡ on_row r (one_cell c x) (paper_of w cells)
-  unfolding on_row
-  paper-set = λ k i j. (at_place i j (eqb i r) (eqb j c) (ltb j w) refl refl refl ∙ sym (cond-app (eqb i r) (one_cell c x (paper_of w cells i)) (paper_of w cells i) j)) k
-
--- no rows blanked
-pub rows_none : (a : ℕ) (p : Paper) → 1 ≤ a → rows_from a (a - 1) p ≡ p
-unfolding rows_from
-rows_none a p some = λ k i. cond-false (leb a i && leb i (a - 1)) blank_row (p i) (let out : (leb a i && leb i (a - 1)) ≡ false = grind (arith, nat_tests) in out) k
-
--- one row more
-pub rows_more : (a r : ℕ) (f : Row → Row) (p : Paper) → 1 ≤ a → a ≤ r → ((w : Row) → f w ≡ blank_row) → on_row r f (rows_from a (r - 1) p) ≡ rows_from a r p
-unfolding rows_from on_row
-rows_more a r f p some le blank = λ k i. at i (eqb i r) refl k
+-- a row's cells are the cells of one row of the paper
+pub row-here : (w r a k : ℕ) (xs : List Cell) → a ≡ r * w → k ≡ w → length (mid_of a k xs) ≡ k → row_of (mid_of a k xs) ≡ paper_of w xs r
+row-here w r a k xs ea ek long = λ m j. at j (ltb j w) refl m
   where
-    at : (i : ℕ) (b : Bool) → eqb i r ≡ b → cond b (f (cond (leb a i && leb i (r - 1)) blank_row (p i))) (cond (leb a i && leb i (r - 1)) blank_row (p i)) ≡ cond (leb a i && leb i r) blank_row (p i)
-    at i true t = let same = eqb-true i r t in let yes : (leb a i && leb i r) ≡ true = grind (arith, nat_tests) in blank _ ∙ sym (cond-true (leb a i && leb i r) blank_row (p i) yes)
-    at i false t = let other = eqb-false i r t in let alike : (leb a i && leb i (r - 1)) ≡ (leb a i && leb i r) = grind (arith, nat_tests) in ap (λ b. cond b blank_row (p i)) alike
+    at : (j : ℕ) (t : Bool) → ltb j w ≡ t → get_or (mid_of a k xs) j Blank ≡ cond t (get_or xs (r * w + j) Blank) Blank
+    at j true e = let near = ltb-true j w e in mid-at a k xs xs Blank j (omega arith) ∙ ap (λ n. get_or xs (n + j) Blank) ea
+    at j false e = let far = ltb-false j w e in get_or_past (mid_of a k xs) j Blank (omega arith)
+
+module _ (w r a k : ℕ) (xs ys : List Cell) (ea : a ≡ r * w) (ek : k ≡ w) (within : a + k ≤ length xs) (long : length ys ≡ k) where
+  -- what was written stands in its row
+  in_row : (j : ℕ) (t : Bool) → ltb j w ≡ t → cond t (get_or (put_mid a k xs ys) (r * w + j) Blank) Blank ≡ row_of ys j
+  in_row j true e =
+      let near = ltb-true j w e in
+      ap (λ n. get_or (put_mid a k xs ys) (n + j) Blank) (sym ea) ∙ put-in a k xs ys Blank j (omega arith) (omega arith)
+  in_row j false e = let far = ltb-false j w e in sym (get_or_past ys j Blank (omega arith))
+
+  -- the other rows are as they were
+  off_row : (i j : ℕ) → j < w → (i ≡ r → ⊥) → get_or (put_mid a k xs ys) (i * w + j) Blank ≡ get_or xs (i * w + j) Blank
+  off_row i j near other =
+      ⊎_elim
+      (λ up. put-below a k xs ys Blank (i * w + j) (omega (arith, mul-add-lt i w j r up near)) (omega arith))
+      (λ le. let down : r + 1 ≤ i = omega arith in put-above a k xs ys Blank (i * w + j) (omega (arith, mul-le (r + 1) w i w down (le_refl w))) (omega arith) long)
+      (cases_lt i r)
+
+  -- one row's cells written are one row of the paper changed
+  pub paper-row : (f : Row → Row) → row_of ys ≡ f (row_of (mid_of a k xs)) → paper_of w (put_mid a k xs ys) ≡ on_row r f (paper_of w xs)
+  unfolding on_row
+  paper-row f e = λ m i j. at i j (eqb i r) (ltb j w) refl refl m
+    where
+      here : row_of ys ≡ f (paper_of w xs r)
+      here = e ∙ ap f (row-here w r a k xs ea ek (length-take-le k (drop a xs) (omega (arith, length-drop a xs))))
+
+      at : (i j : ℕ) (b t : Bool) → eqb i r ≡ b → ltb j w ≡ t → cond t (get_or (put_mid a k xs ys) (i * w + j) Blank) Blank ≡ cond b (f (paper_of w xs i)) (paper_of w xs i) j
+      at i j true t same e = let is = eqb-true i r same in ap (λ n. cond t (get_or (put_mid a k xs ys) (n * w + j) Blank) Blank) is ∙ in_row j t e ∙ ap (λ g. g j) here ∙ sym (ap (λ n. f (paper_of w xs n) j) is)
+      at i j false true other e = off_row i j (ltb-true j w e) (eqb-false i r other) ∙ sym (cond-true _ _ _ e)
+      at i j false false other e = sym (cond-false _ _ _ e)
+
+-- the rows from a up to b
+rows-before : (a b i : ℕ) → i < a → (leb a i && leb i (b - 1)) ≡ false
+rows-before a b i lt = grind (arith, nat_tests)
+
+rows-in : (a b i : ℕ) → a ≤ i → i < b → (leb a i && leb i (b - 1)) ≡ true
+rows-in a b i le lt = grind (arith, nat_tests)
+
+rows-behind : (a b i : ℕ) → 1 ≤ b → b ≤ i → (leb a i && leb i (b - 1)) ≡ false
+rows-behind a b i some le = grind (arith, nat_tests)
+
+module _ (w a b p k : ℕ) (xs ys : List Cell) (ep : p ≡ a * w) (ek : p + k ≡ b * w) (within : p + k ≤ length xs) (some : 1 ≤ b) (blank : ys ≡ replicate k Blank) where
+  long : length ys ≡ k
+  long = ap length blank ∙ length-replicate k Blank
+
+  -- a cell after blank ones were written
+  written : (i j : ℕ) → j < w → get_or (put_mid p k xs ys) (i * w + j) Blank ≡ cond (leb a i && leb i (b - 1)) Blank (get_or xs (i * w + j) Blank)
+  written i j near =
+      ⊎_elim
+      (λ up. put-below p k xs ys Blank (i * w + j) (omega (arith, mul-add-lt i w j a up near)) (omega arith) ∙ sym (cond-false _ _ _ (rows-before a b i up)))
+      (λ le. ⊎_elim
+      (λ lt.
+      let n = i * w + j - p in
+      let here : i * w + j ≡ p + n = omega (arith, mul-le a w i w le (le_refl w)) in
+      ap (λ m. get_or (put_mid p k xs ys) m Blank) here
+      ∙ put-in p k xs ys Blank n (omega (arith, long, mul-add-lt i w j b lt near)) (omega arith)
+      ∙ ap (λ l. get_or l n Blank) blank ∙ alike k n Blank ∙ sym (cond-true _ _ _ (rows-in a b i le lt)))
+      (λ down. put-above p k xs ys Blank (i * w + j) (omega (arith, mul-le b w i w down (le_refl w))) (omega arith) long ∙ sym (cond-false _ _ _ (rows-behind a b i some down)))
+      (cases_lt i b))
+      (cases_lt i a)
+
+  -- rows of blank cells written are rows of the paper blanked
+  pub paper-rows : paper_of w (put_mid p k xs ys) ≡ rows_from a (b - 1) (paper_of w xs)
+  unfolding rows_from
+  paper-rows = λ m i j. at i j (leb a i && leb i (b - 1)) (ltb j w) refl refl m
+    where
+      at : (i j : ℕ) (c t : Bool) → (leb a i && leb i (b - 1)) ≡ c → ltb j w ≡ t → cond t (get_or (put_mid p k xs ys) (i * w + j) Blank) Blank ≡ cond c blank_row (λ n. cond (ltb n w) (get_or xs (i * w + n) Blank) Blank) j
+      at i j true true e t = written i j (ltb-true j w t) ∙ cond-true _ _ _ e
+      at i j false true e t = written i j (ltb-true j w t) ∙ cond-false _ _ _ e ∙ sym (cond-true _ _ _ t)
+      at i j true false e t = refl
+      at i j false false e t = sym (cond-false _ _ _ t)
 
 -- blank cells make blank paper
 pub paper-blank : (w n : ℕ) → paper_of w (replicate n Blank) ≡ blank_paper
 paper-blank w n = λ k i j. at i j k
   where
     at : (i j : ℕ) → paper_of w (replicate n Blank) i j ≡ Blank
-    at i j =
-        cond_both (ltb j w) (get_or (replicate n Blank) (i * w + j) Blank) Blank (λ x. x ≡ Blank)
-        (λ _. ⊎_elim (λ lt. get_or-replicate n (i * w + j) Blank Blank lt) (λ le. get_or_past (replicate n Blank) (i * w + j) Blank (rw length-replicate le)) (cases_lt (i * w + j) n))
-        (λ _. refl)
+    at i j = cond_both (ltb j w) (get_or (replicate n Blank) (i * w + j) Blank) Blank (λ x. x ≡ Blank) (λ _. alike n (i * w + j) Blank) (λ _. refl)

@@ -1,11 +1,15 @@
 -- The screen that a grid means. Assumes nothing.
 use Rattle.std.specs.Prelude.{◌≡◌, ℕ, ◌+◌, ◌*◌, ◌/◌, cond, List, vec_items, nat_lt, slice_index_or}
-use Rattle.screen.specs.Screen.{Screen, Geometry, Paper, blank_screen}
+use Rattle.screen.specs.Screen.{Screen, Geometry, Row, Paper, blank_screen}
 use Rattle.screen.specs.declared.cells.Cell.{Cell}
 use Rattle.screen.specs.declared.cells.Cell.TheVariants.{Blank}
 use Rattle.terminal.specs.Windows.{geometry}
 use Rattle.terminal.specs.declared.size.Size.{Size}
 use Rattle.grid.specs.declared.grid.Grid.{Grid}
+
+-- one row's cells, and blank ones behind them
+abbrev pub row_of : List Cell → Row
+row_of cells = λ j. slice_index_or cells j Blank
 
 -- rows of so many cells, one after the other; the rest of the paper is blank
 abbrev pub paper_of : ℕ → List Cell → Paper

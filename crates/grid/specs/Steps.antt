@@ -1,8 +1,6 @@
 -- What the grid's own steps do to its screen. Assumes nothing.
-use Rattle.std.specs.Prelude.{◌≡◌, ℕ, suc, ◌+◌, ◌-◌, ◌<◌, ◌≤◌, max, cond, Ok, Err, Result, ◌==◌, nat_le}
-use Rattle.screen.specs.Screen.{Screen, Geometry, Row, Paper, Pen, on_row}
-use Rattle.screen.specs.declared.cells.Cell.{Cell}
-use Rattle.screen.specs.declared.cells.Cell.TheVariants.{Blank}
+use Rattle.std.specs.Prelude.{◌≡◌, suc, ◌+◌, ◌-◌, ◌<◌, ◌≤◌, max, Ok, Err, Result}
+use Rattle.screen.specs.Screen.{Screen, Geometry, Paper, Pen}
 use Rattle.grid.specs.declared.full.Full.{Full}
 use Rattle.grid.specs.declared.grid.Grid.{Grid}
 use Rattle.grid.specs.Meaning.{shown}
@@ -10,18 +8,6 @@ use Rattle.grid.specs.Meaning.{shown}
 -- another paper, and nothing else
 abbrev pub drawn : Paper → Screen → Screen
 drawn p s = record { pen = record { paper = p; row = s.pen.row; col = s.pen.col; join = s.pen.join }; top = s.top; held = s.held; parser = s.parser }
-
--- one row changed
-abbrev pub rowed : ℕ → (Row → Row) → Screen → Screen
-rowed r f s = drawn (on_row r f s.pen.paper) s
-
--- one cell of a row
-abbrev pub one_cell : ℕ → Cell → Row → Row
-one_cell c x f j = cond (j == c) x (f j)
-
--- the cells of a row from column a on
-abbrev pub clear_from : ℕ → Row → Row
-clear_from a f j = cond (nat_le a j) Blank (f j)
 
 -- another pen, and nothing else
 abbrev pub penned : Pen → Screen → Screen

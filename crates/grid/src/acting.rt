@@ -13,7 +13,10 @@ fn number_with(number: u16, digit: u8) -> u16
     requires { digit < 10 }
     ensures { result ≡ min (10 * number + digit) 9999 }
 {
-    (10 * number as u32 + digit as u32).min(9999) as u16
+    number
+        .saturating_mul(10)
+        .saturating_add(u16::from(digit))
+        .min(9999)
 }
 
 // The bytes of `?2026`.
@@ -34,7 +37,7 @@ pub(crate) fn with_parameter(parameters: Parameters, byte: u8) -> Parameters
     ensures { result ≡ parameter parameters byte }
 {
     match (parameters, byte) {
-        (Parameters::Bare, b'0'..=b'9') => Parameters::Number((byte - b'0') as u16),
+        (Parameters::Bare, b'0'..=b'9') => Parameters::Number(u16::from(byte - b'0')),
         (Parameters::Bare, b';') => Parameters::Numbers(0),
         (Parameters::Bare, b'?') => Parameters::Mode(1),
         (Parameters::Bare, _) => Parameters::Other,
@@ -64,6 +67,7 @@ impl<W: WidthTable> Grid<W> {
     }
 
     // What a final byte does behind parameters, `m` excepted.
+    #[tactic(auto, unfolding(screen::specs::Bytes::act))]
     fn act(&mut self, parameters: Parameters, last: u8)
         ensures { Does (act (area W.WidthTable.columns self.old) parameters last) self.old self.new }
     {
@@ -82,6 +86,7 @@ impl<W: WidthTable> Grid<W> {
     }
 
     // The final byte of a sequence.
+    #[tactic(auto, unfolding(screen::specs::Bytes::finish))]
     pub(crate) fn finish(&mut self, parameters: Parameters, last: u8)
         ensures { Does (finish (area W.WidthTable.columns self.old) parameters last) self.old self.new }
     {

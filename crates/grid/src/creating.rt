@@ -6,27 +6,18 @@ use crate::grid::Grid;
 use screen::cells::{Cell, Parser};
 use terminal::size::Size;
 
-// Blanks cells.
-fn blank(cells: &mut [Cell])
-    ensures { cells.new ≡ replicate (length cells.old) Cell.Blank }
-{
-    for cell in cells.iter_mut() {
-        *cell = Cell::Blank;
-    }
-}
-
 impl<W: Drop> Grid<W> {
     // A blank screen in given cells, of which those that make no whole row are cut off; where they hold fewer rows than the window, they are given back.
     pub fn new(widths: W, mut cells: Vec<Cell>, size: Size) -> Result<Grid<W>, Vec<Cell>>
         ensures { MatchResult result (Opened widths (vec_len cells) size) (λ back. (back ≡ cells) × (vec_len cells < size.rows * size.cols)) }
     {
-        let cols = size.cols() as usize;
+        let cols = usize::from(size.cols());
         let depth = cells.len() / cols;
-        if depth < size.rows() as usize {
+        if depth < usize::from(size.rows()) {
             return Err(cells);
         }
         cells.truncate(depth * cols);
-        blank(cells.as_mut_slice());
+        cells.fill(Cell::Blank);
         Ok(Grid {
             cells,
             depth,

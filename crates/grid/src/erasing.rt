@@ -3,24 +3,14 @@ ghost use Rattle.std.specs.Prelude.{◌≡◌, suc, ◌+◌, ◌-◌, ◌<◌, �
 ghost use Rattle.screen.specs.Screen.{rows_from};
 ghost use Rattle.screen.specs.Bytes.{at, bottom, column, dropped, inked, move, wiped};
 ghost use Rattle.grid.specs.Meaning.{shown, area};
-ghost use Rattle.grid.specs.Steps.{Does, drawn, rowed, clear_from};
+ghost use Rattle.grid.specs.Steps.{Does, drawn};
 
 use crate::grid::Grid;
+use crate::row::wipe;
 use screen::cells::{Cell, Parser};
 use widths::tables::WidthTable;
 
 impl<W> Grid<W> {
-    // Blanks a row from a column on.
-    fn clear_row(&mut self, row: usize, from: usize)
-        requires row_within { row < self.old.depth }
-        requires from_within { from ≤ self.old.size.cols }
-        ensures { Does (rowed row (clear_from from)) self.old self.new }
-    {
-        for col in from..self.size.cols() as usize {
-            self.set_cell(row, col, Cell::Blank);
-        }
-    }
-
     // Blanks the rows from one on, up to another.
     fn clear_rows(&mut self, from: usize, to: usize)
         requires some { 1 ≤ from }
@@ -28,9 +18,8 @@ impl<W> Grid<W> {
         requires within { to ≤ self.old.depth }
         ensures { Does (λ s. drawn (rows_from from (to - 1) s.pen.paper) s) self.old self.new }
     {
-        for row in from..to {
-            self.clear_row(row, 0);
-        }
+        let cols = usize::from(self.size.cols());
+        self.cells[from * cols..to * cols].fill(Cell::Blank);
     }
 }
 
@@ -46,10 +35,9 @@ impl<W: WidthTable> Grid<W> {
     fn wipe(&mut self)
         ensures { Does (λ s. drawn (wiped (area W.WidthTable.columns self.old) s) s) self.old self.new }
     {
-        let row = self.row;
-        let col = self.column() as usize;
-        self.split(row, col);
-        self.clear_row(row, col);
+        let col = usize::from(self.column());
+        let here = self.here();
+        wipe(&mut self.cells[here], col);
     }
 
     // Blanks from the cursor to the row's end.
@@ -65,7 +53,7 @@ impl<W: WidthTable> Grid<W> {
         ensures { Does (λ s. inked (rows_from (suc s.pen.row) (bottom (area W.WidthTable.columns self.old) s) (wiped (area W.WidthTable.columns self.old) s)) s) self.old self.new }
     {
         let from = self.row + 1;
-        let to = self.top + self.size.rows() as usize;
+        let to = self.top + usize::from(self.size.rows());
         self.wipe();
         self.clear_rows(from, to);
         self.drop_unfinished();
@@ -106,10 +94,10 @@ impl<W: WidthTable> Grid<W> {
         let row = self.row;
         let col = self.column();
         let right = self.size.cols() - 1;
-        let bottom = self.top + self.size.rows() as usize - 1;
+        let bottom = self.top + usize::from(self.size.rows()) - 1;
         match last {
-            b'A' => self.go(row.saturating_sub(count as usize).max(self.top), col),
-            b'B' => self.go(row.saturating_add(count as usize).min(bottom), col),
+            b'A' => self.go(row.saturating_sub(usize::from(count)).max(self.top), col),
+            b'B' => self.go(row.saturating_add(usize::from(count)).min(bottom), col),
             b'C' => self.go(row, col.saturating_add(count).min(right)),
             b'D' => self.go(row, col.saturating_sub(count)),
             _ => self.drop_unfinished(),

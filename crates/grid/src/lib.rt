@@ -4,11 +4,11 @@
 mod acting;
 mod cells;
 mod creating;
-mod drawing;
 mod erasing;
 mod full;
 pub mod grid;
 mod parsing;
 mod putting;
 mod reading;
+mod row;
 pub mod writing;

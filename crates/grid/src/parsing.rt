@@ -1,8 +1,8 @@
 // What one byte does to a grid.
 ghost use Rattle.std.specs.Prelude.{◌≡◌, ◌≤◌, true};
-ghost use Rattle.screen.specs.Bytes.{begin, continue, dropped, escaped, into, starts, step, step_in};
+ghost use Rattle.screen.specs.Bytes.{begin, continue, dropped, escaped, starts, step, step_in};
 ghost use Rattle.screen.specs.declared.cells.Parser.TheVariants.{Ground, Escape, Sequence, Character};
-ghost use Rattle.grid.specs.Bounds.{sure, bounded};
+ghost use Rattle.grid.specs.Bounds.{sure};
 ghost use Rattle.grid.specs.Meaning.{area};
 ghost use Rattle.grid.specs.Steps.{Does, Tries};
 
@@ -12,29 +12,29 @@ use crate::grid::Grid;
 use screen::cells::{Parameters, Parser, Partial};
 use widths::tables::WidthTable;
 
-impl<W: WidthTable> Grid<W> {
-    // Enters another state.
-    fn set_parser(&mut self, parser: Parser)
-        requires { bounded parser ≡ true }
-        ensures { Does (into parser) self.old self.new }
-    {
-        self.parser = parser;
-    }
+// A character begun, of which any bytes to come make a character.
+#[derive(Clone, Copy)]
+struct Begun {
+    partial: Partial,
+    ghost sure: { sure partial ≡ true },
+}
 
+impl<W: WidthTable> Grid<W> {
     // A character of several bytes begins.
     fn start(&mut self, value: u8, left: u8, low: u8, high: u8)
         requires { sure (record { value = value; left = left; low = low; high = high }) ≡ true }
         ensures { Does (starts value left low high) self.old self.new }
     {
-        self.set_parser(Parser::Character(Partial {
-            value: value as u32,
+        self.parser = Parser::Character(Partial {
+            value: u32::from(value),
             left,
             low,
             high,
-        }));
+        });
     }
 
     // A byte from 128 on where nothing is unfinished.
+    #[tactic(auto, unfolding(screen::specs::Bytes::begin))]
     fn begin_character(&mut self, byte: u8)
         requires { 128 ≤ byte }
         ensures { Does (begin (area W.WidthTable.columns self.old) byte) self.old self.new }
@@ -58,29 +58,29 @@ impl<W: WidthTable> Grid<W> {
         ensures { Tries (step_in (area W.WidthTable.columns self.old) Ground byte) self.old self.new result }
     {
         if byte < 128 {
-            return self.put(byte as char);
+            return self.put(char::from(byte));
         }
         self.begin_character(byte);
         Ok(())
     }
 
     // One more byte of a character.
-    fn continue_character(&mut self, partial: Partial, byte: u8) -> Result<(), Full>
-        requires sure { sure partial ≡ true }
-        requires low { partial.low ≤ byte }
-        requires high { byte ≤ partial.high }
-        ensures { Tries (continue (area W.WidthTable.columns self.old) partial byte) self.old self.new result }
+    fn continue_character(&mut self, begun: Begun, byte: u8) -> Result<(), Full>
+        requires low { begun.partial.low ≤ byte }
+        requires high { byte ≤ begun.partial.high }
+        ensures { Tries (continue (area W.WidthTable.columns self.old) begun.partial byte) self.old self.new result }
     {
-        let value = partial.value * 64 + (byte - 0x80) as u32;
+        let partial = begun.partial;
+        let value = partial.value * 64 + u32::from(byte - 0x80);
         if partial.left < 2 {
             return self.put(char::from_u32(value).unwrap());
         }
-        self.set_parser(Parser::Character(Partial {
+        self.parser = Parser::Character(Partial {
             value,
             left: partial.left - 1,
             low: 0x80,
             high: 0xbf,
-        }));
+        });
         Ok(())
     }
 }
@@ -102,18 +102,19 @@ impl<W: WidthTable> Grid<W> {
     }
 
     // A byte inside a character: it continues it, or drops it and counts for itself.
-    fn in_character(&mut self, partial: Partial, byte: u8) -> Result<(), Full>
-        requires { sure partial ≡ true }
-        ensures { Tries (step_in (area W.WidthTable.columns self.old) (Character partial) byte) self.old self.new result }
+    #[tactic(auto, unfolding(screen::specs::Bytes::step_in))]
+    fn in_character(&mut self, begun: Begun, byte: u8) -> Result<(), Full>
+        ensures { Tries (step_in (area W.WidthTable.columns self.old) (Character begun.partial) byte) self.old self.new result }
     {
-        if partial.low <= byte && byte <= partial.high {
-            self.continue_character(partial, byte)
+        if begun.partial.low <= byte && byte <= begun.partial.high {
+            self.continue_character(begun, byte)
         } else {
             self.begin_anew(byte)
         }
     }
 
     // A byte after `ESC[` and parameters.
+    #[tactic(auto, unfolding(screen::specs::Bytes::step_in))]
     fn in_sequence(&mut self, parameters: Parameters, byte: u8)
         ensures { Does (step_in (area W.WidthTable.columns self.old) (Sequence parameters) byte) self.old self.new }
     {
@@ -125,6 +126,7 @@ impl<W: WidthTable> Grid<W> {
     }
 
     // A byte after ESC.
+    #[tactic(auto, unfolding(screen::specs::Bytes::step_in))]
     fn after_escape(&mut self, byte: u8)
         ensures { Does (step_in (area W.WidthTable.columns self.old) Escape byte) self.old self.new }
     {
@@ -164,7 +166,7 @@ impl<W: WidthTable> Grid<W> {
                 self.in_sequence(parameters, byte);
                 Ok(())
             }
-            (Parser::Character(partial), _) => self.in_character(partial, byte),
+            (Parser::Character(partial), _) => self.in_character(Begun { partial }, byte),
         }
     }
 }

@@ -6,6 +6,7 @@ ghost use Rattle.grid.specs.Steps.{Does, penned, shifted, Tries};
 
 use crate::full::Full;
 use crate::grid::Grid;
+use crate::row::{Spacing, mark, place};
 use screen::cells::Parser;
 use text::decode::is_control;
 use widths::tables::WidthTable;
@@ -15,7 +16,7 @@ impl<W: WidthTable> Grid<W> {
     fn next_row(&mut self) -> Result<(), Full>
         ensures { Tries (λ s. shifted (area W.WidthTable.columns self.old) (newline s.pen) s) self.old self.new result }
     {
-        let end = self.top + self.size.rows() as usize;
+        let end = self.top + usize::from(self.size.rows());
         if self.row + 1 == end {
             if end == self.depth {
                 return Err(Full);
@@ -28,51 +29,45 @@ impl<W: WidthTable> Grid<W> {
         Ok(())
     }
 
-    // Goes to the next row where so many columns do not fit this one.
-    fn make_room(&mut self, width: u8) -> Result<(), Full>
-        requires { width ≤ 2 }
-        ensures tries { Tries (λ s. shifted (area W.WidthTable.columns self.old) (room (nat_lt self.old.size.cols (s.pen.col + width)) s.pen) s) self.old self.new result }
-        ensures fits { OnOk result (self.new.col + width ≤ self.new.size.cols) }
+    // Goes to the next row where a character does not fit this one.
+    fn make_room(&mut self, spacing: Spacing) -> Result<(), Full>
+        ensures tries { Tries (λ s. shifted (area W.WidthTable.columns self.old) (room (nat_lt self.old.size.cols (s.pen.col + spacing.width)) s.pen) s) self.old self.new result }
+        ensures fits { OnOk result (self.new.col + spacing.width ≤ self.new.size.cols) }
     {
-        if self.col + width as u16 > self.size.cols() {
+        if self.col + u16::from(spacing.width) > self.size.cols() {
             self.next_row()?;
         }
         Ok(())
     }
 
-    // Puts a character of one or two columns at the cursor.
-    fn take_cells(&mut self, c: char, width: u8)
-        requires some { 1 ≤ width }
-        requires narrow { width ≤ 2 }
-        requires fits { self.old.col + width ≤ self.old.size.cols }
-        ensures { Does (λ s. penned (takes width c s.pen) s) self.old self.new }
+    // Puts a character at the cursor.
+    fn take_cells(&mut self, spacing: Spacing)
+        requires { self.old.col + spacing.width ≤ self.old.size.cols }
+        ensures { Does (λ s. penned (takes spacing.width spacing.c s.pen) s) self.old self.new }
     {
-        let row = self.row;
-        let col = self.col;
-        self.place(row, col as usize, c, width);
-        self.join = Some(col);
-        self.col = col + width as u16;
+        let here = self.here();
+        place(&mut self.cells[here], usize::from(self.col), spacing);
+        self.join = Some(self.col);
+        self.col += u16::from(spacing.width);
     }
 
     // A zero-width character: it is put on the cell last taken.
-    fn combine(&mut self, mark: char)
-        ensures { Does (λ s. follow (area W.WidthTable.columns self.old) (combine s.pen.join mark s.pen) s) self.old self.new }
+    fn combine(&mut self, c: char)
+        ensures { Does (λ s. follow (area W.WidthTable.columns self.old) (combine s.pen.join c s.pen) s) self.old self.new }
     {
-        if let Some(col) = self.join {
-            let row = self.row;
-            self.mark(row, col as usize, mark);
-        }
         self.parser = Parser::Ground;
+        if let Some(col) = self.join {
+            let here = self.here();
+            mark(&mut self.cells[here], usize::from(col), c);
+        }
     }
 
     // A character of one or two columns.
-    fn take(&mut self, c: char, width: u8) -> Result<(), Full>
-        requires some { 1 ≤ width }
-        requires narrow { width ≤ 2 }
-        ensures { Tries (λ s. follow (area W.WidthTable.columns self.old) (takes width c (room (nat_lt self.old.size.cols (s.pen.col + width)) s.pen)) s) self.old self.new result }
+    fn take(&mut self, spacing: Spacing) -> Result<(), Full>
+        ensures { Tries (λ s. follow (area W.WidthTable.columns self.old) (takes spacing.width spacing.c (room (nat_lt self.old.size.cols (s.pen.col + spacing.width)) s.pen)) s) self.old self.new result }
     {
-        self.make_room(width)?;
-        self.take_cells(c, width);
+        self.make_room(spacing)?;
+        self.take_cells(spacing);
         self.parser = Parser::Ground;
         Ok(())
     }
@@ -108,6 +103,6 @@ impl<W: WidthTable> Grid<W> {
             self.combine(c);
             return Ok(());
         }
-        self.take(c, width)
+        self.take(Spacing { c, width })
     }
 }

@@ -1,20 +1,22 @@
-use Rattle.std.proofs.Common.{ap}
-use Rattle.screen.specs.Screen.{split, wipe_from}
-use Rattle.grid.specs.Meaning.{shown}
-use Rattle.grid.specs.Steps.{rowed, clear_from}
-use Rattle.grid.proofs.Doing.{rows_then, row_as, does-as}
-use Rattle.screen.specs.Bytes.{wiped}
-use Rattle.grid.specs.Meaning.{area}
+use Rattle.std.proofs.Common.{◌-◌, refl, ap, ◌∙◌}
+use Rattle.screen.specs.Screen.{wipe_from}
+use Rattle.grid.specs.Meaning.{shown, row_of}
 use Rattle.grid.specs.Steps.{drawn}
-use Rattle.grid.proofs.Rows.{wipe-clear}
+use Rattle.grid.proofs.Doing.{row-written}
 use Rattle.grid.proofs.grid.Grid.wipe.Goals as goal
+use borrow.Rule.Slice.PartMut.{mid_of}
 
 pub returns : goal.returns
 returns g c =
     let s = c.args.self.now in
-    let r = s.row in
-    let col = c.column-col.result in
-    let mid = c.split.new.self in
-    let end = c.clear_row.new.self in
-    let done = row_as r (λ w. clear_from col (split col w)) (wipe_from col) s end (wipe-clear col ((shown s).pen.paper r)) (rows_then r (split col) (clear_from col) s mid end c.split.ensures c.clear_row.ensures) in
-    does-as (rowed r (wipe_from col)) (λ t. drawn (wiped (area g.W.WidthTable.columns s) t) t) s end (ap (λ n. rowed r (wipe_from n) (shown s)) c.column-col.ensures) done
+    let a = c.here-here.result.start in
+    let e = c.here-here.result.end in
+    let at = c.here-here.ensures in
+    let cells = c.deref_mut.result.now in
+    let row = row_of (mid_of a (e - a) cells) in
+    let wiped = c.wipe.ensures ∙ ap (λ n. wipe_from n row) (c.from-col.ensures ∙ c.column.ensures) in
+    record {
+      shows = ap (λ p. drawn p (shown s)) (row-written s s.row (wipe_from _) a e cells c.wipe.new.cells c.deref_mut.ensures.value at.start at.end at.within c.wipe.auto.cells wiped);
+      depth = refl;
+      size = refl;
+    }
