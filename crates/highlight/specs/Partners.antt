@@ -1,6 +1,6 @@
 -- What is answered for a bracket is its partner. Assumes nothing.
 use Rattle.std.specs.Prelude.{◌≡◌, ℕ, zero, suc, ◌+◌, ◌-◌, ◌<◌, ◌≤◌, Bool, true, false, cond, ◌&&◌, ◌⊎◌, List, reverse, length, take, drop, Some, None, Option, ◌==◌, ◌≢◌, nat_le, nat_lt, slice_index, slice_index_or, refl}
-use Rattle.std.proofs.Common.{sym, ap, ◌∙◌, inl, inr, ⊎_elim, arith, add-one, length-drop}
+use Rattle.std.proofs.Common.{sym, ap, subst, ◌∙◌, inl, inr, ⊎_elim, arith, add-one, length-drop}
 use Rattle.std.proofs.lemmas.Bool.{eqb-true, eqb-false, and_from, and_left, and_right, cond-true, cond-false, lt-ltb, le-ltb, le-leb, lt-leb, cases_Bool, cases_lt}
 use Rattle.std.proofs.lemmas.Bool.Decides.{nat_tests}
 use Rattle.std.proofs.lemmas.List.{get_or-drop}
@@ -99,6 +99,9 @@ module _ (line : List ℕ) (pos b : ℕ) where
         closing-past = λ e h. matching-none (and_left (is_open b) _ (closing-not-opening b e)) (and_right (is_close b) _ (lt-leb pos (length line) h));
         other = λ n m. matching-none (and_left (is_open b) _ n) (and_left (is_close b) _ m);
       }
+
+  pub matched-by : {r : Option Bracket} → r ≡ matching line pos b → Matched line pos b r
+  matched-by {r} e = subst (Matched line pos b) (sym e) matched-is
 
 -- a bracket stands at its index of a line
 pub record Stands (line : List ℕ) (m : Bracket) : Type 0 where
