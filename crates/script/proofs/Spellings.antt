@@ -5,10 +5,6 @@ use Rattle.std.proofs.lemmas.List.{at_drop_more}
 use Rattle.std.proofs.lemmas.Bool.{cond-true, cond-false, cond_both, cases_lt}
 use Rattle.script.specs.Numbers.{spelled, number_of}
 
--- what is not below a limit, and no more than n
-pub not-below : (x n : ℕ) → (x < 2 ^ 64 → ⊥) → x ≤ n → 2 ^ 64 ≤ n
-not-below x n high le = ⊎_elim (λ lt. absurd (high lt)) (λ up. omega arith) (cases_lt x (2 ^ 64))
-
 -- more digits say no less
 pub spelled-up : (bs : List ℕ) (n m : ℕ) → spelled bs n ≡ Some m → n ≤ m
 spelled-up [] n m e = let h : n ≡ m = cc in omega arith
@@ -20,6 +16,3 @@ spelled-up (b ∷ bs) n m e =
 module _ (w : List ℕ) (i n : ℕ) (begun : number_of w ≡ spelled (drop i w) n) (lt : i < length w) where
   pub spelled-digit : (is_ascii_digit (get_or w i 0)) ≡ true → number_of w ≡ spelled (drop (i + 1) w) (n * 10 + (get_or w i 0 - 48))
   spelled-digit e = begun ∙ at_drop_more (λ l. spelled l n) w i 0 lt ∙ cond-true (is_ascii_digit (get_or w i 0)) _ _ e
-
-  pub spelled-other : (is_ascii_digit (get_or w i 0)) ≡ false → number_of w ≡ None
-  spelled-other e = begun ∙ at_drop_more (λ l. spelled l n) w i 0 lt ∙ cond-false (is_ascii_digit (get_or w i 0)) _ _ e

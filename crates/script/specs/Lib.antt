@@ -1,3 +1,5 @@
 pub mod Strings
 pub mod Numbers
 pub mod Fields
+pub mod Wrongs
+pub mod Defaults

@@ -3,7 +3,7 @@ use Rattle.std.specs.Prelude.{◌≡◌, ℕ, ◌+◌, ◌-◌, ◌*◌, ◌%◌
 use Rattle.script.specs.declared.escape.Spot.{Spot}
 use Rattle.script.specs.declared.escape.Spot.TheVariants.{Plain, Escape, High, Low}
 use Rattle.script.specs.declared.escape.Step.{Step}
-use Rattle.script.specs.declared.escape.Step.TheVariants.{Goes, Gives, Closes, Fails}
+use Rattle.script.specs.declared.escape.Step.TheVariants.{Goes, Gives, Closes}
 use Rattle.script.specs.declared.escape.Quoted.{Quoted}
 use Rattle.script.specs.declared.escape.StringFault.{StringFault}
 use Rattle.script.specs.declared.escape.StringFault.TheVariants as faults
@@ -14,25 +14,25 @@ digit_of b =
     cond (nat_le 48 b && nat_le b 57) (Some (b - 48))
     (cond (nat_le 65 b && nat_le b 70) (Some (b - 65 + 10)) (cond (nat_le 97 b && nat_le b 102) (Some (b - 97 + 10)) None))
 
--- behind a backslash: n, t, r, e, the backslash, the mark, or x with two digits to come
-abbrev pub escape_of : ℕ → Step
+-- behind a backslash: n, t, r, e, the backslash, the mark, or x with two digits to come; none else
+abbrev pub escape_of : ℕ → Option Step
 escape_of b =
-    cond (b == 110) (Gives 10) (cond (b == 116) (Gives 9) (cond (b == 114) (Gives 13) (cond (b == 101) (Gives 27)
-    (cond (b == 92) (Gives 92) (cond (b == 34) (Gives 34) (cond (b == 120) (Goes High) Fails))))))
+    cond (b == 110) (Some (Gives 10)) (cond (b == 116) (Some (Gives 9)) (cond (b == 114) (Some (Gives 13)) (cond (b == 101) (Some (Gives 27))
+    (cond (b == 92) (Some (Gives 92)) (cond (b == 34) (Some (Gives 34)) (cond (b == 120) (Some (Goes High)) None))))))
 
 -- the first of two digits
-abbrev pub high_of : Option ℕ → Step
-high_of None = Fails
-high_of (Some d) = Goes (Low d)
+abbrev pub high_of : Option ℕ → Option Step
+high_of None = None
+high_of (Some d) = Some (Goes (Low d))
 
 -- the second, behind one of value h
-abbrev pub low_of : ℕ → Option ℕ → Step
-low_of h None = Fails
-low_of h (Some d) = Gives ((h * 16 % 256 + d) % 256)
+abbrev pub low_of : ℕ → Option ℕ → Option Step
+low_of h None = None
+low_of h (Some d) = Some (Gives ((h * 16 % 256 + d) % 256))
 
--- what a byte does
-abbrev pub step_of : Spot → ℕ → Step
-step_of Plain b = cond (b == 34) Closes (cond (b == 92) (Goes Escape) (Gives b))
+-- what a byte does; none where it belongs to no escape
+abbrev pub step_of : Spot → ℕ → Option Step
+step_of Plain b = Some (cond (b == 34) Closes (cond (b == 92) (Goes Escape) (Gives b)))
 step_of Escape b = escape_of b
 step_of High b = high_of (digit_of b)
 step_of (Low h) b = low_of h (digit_of b)
@@ -50,11 +50,11 @@ behind xs unclosed = unclosed
 behind xs misspelt = misspelt
 
 -- a byte that does so, with the rest read at each spot and the text behind it
-abbrev pub doing : Step → (Spot → Reading) → List ℕ → Reading
-doing (Goes s) rest bs = rest s
-doing (Gives v) rest bs = behind (v ∷ []) (rest Plain)
-doing Closes rest bs = meant [] bs
-doing Fails rest bs = misspelt
+abbrev pub doing : Option Step → (Spot → Reading) → List ℕ → Reading
+doing (Some (Goes s)) rest bs = rest s
+doing (Some (Gives v)) rest bs = behind (v ∷ []) (rest Plain)
+doing (Some Closes) rest bs = meant [] bs
+doing None rest bs = misspelt
 
 -- reading from a spot
 abbrev pub read_from : List ℕ → Spot → Reading

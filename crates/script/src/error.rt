@@ -1,6 +1,13 @@
 // What can be wrong in a script.
+ghost use Rattle.std.specs.Prelude.{◌≡◌};
+ghost use Rattle.script.specs.Wrongs.{wrong_number, wrong_string};
+ghost use Rattle.script.specs.declared.error.Wrong.TheVariants.{BadWord, Memory};
+
+use crate::escape::StringFault;
+use crate::number::NumberFault;
 use std::alloc::{AllocError, AllocFailed};
 use std::fmt;
+use std::str::Utf8Error;
 
 #[derive(Drop)]
 pub enum Wrong {
@@ -64,13 +71,48 @@ impl fmt::Display for ScriptError {
 }
 
 impl From<AllocError> for Wrong {
+    ghost from_gives = { λ _ wrong. wrong ≡ Memory };
+
     fn from(_error: AllocError) -> Wrong {
         Wrong::Memory
     }
 }
 
 impl<T: Drop> From<AllocFailed<T>> for Wrong {
+    ghost from_gives = { λ _ wrong. wrong ≡ Memory };
+
     fn from(_refused: AllocFailed<T>) -> Wrong {
         Wrong::Memory
+    }
+}
+
+impl From<Utf8Error> for Wrong {
+    ghost from_gives = { λ _ wrong. wrong ≡ BadWord };
+
+    fn from(_error: Utf8Error) -> Wrong {
+        Wrong::BadWord
+    }
+}
+
+impl From<NumberFault> for Wrong {
+    ghost from_gives = { λ fault wrong. wrong ≡ wrong_number fault };
+
+    fn from(fault: NumberFault) -> Wrong {
+        match fault {
+            NumberFault::Digits => Wrong::NoNumber,
+            NumberFault::Large => Wrong::Range,
+        }
+    }
+}
+
+impl From<StringFault> for Wrong {
+    ghost from_gives = { λ fault wrong. wrong ≡ wrong_string fault };
+
+    fn from(fault: StringFault) -> Wrong {
+        match fault {
+            StringFault::Unclosed => Wrong::Unclosed,
+            StringFault::Escape => Wrong::Escape,
+            StringFault::Memory => Wrong::Memory,
+        }
     }
 }

@@ -1,8 +1,9 @@
 // Quoted strings and their escapes.
 ghost use Rattle.std.specs.Prelude.{◌≡◌, ◌≤◌, length};
 ghost use Rattle.script.specs.Strings.{digit_of, escape_of, Reads, step_of};
+ghost use Rattle.script.specs.declared.escape.StringFault.TheVariants.{Memory};
 
-use std::alloc::Global;
+use std::alloc::{AllocFailed, Global};
 
 // Where reading stands inside a quoted string.
 #[derive(Clone, Copy)]
@@ -24,7 +25,6 @@ pub enum Step {
     Gives(u8),
     // the string ends
     Closes,
-    Fails,
 }
 
 // Why a quoted string cannot be read.
@@ -35,6 +35,14 @@ pub enum StringFault {
     // a backslash with something unknown behind it
     Escape,
     Memory,
+}
+
+impl<T: Drop> From<AllocFailed<T>> for StringFault {
+    ghost from_gives = { λ _ fault. fault ≡ Memory };
+
+    fn from(_refused: AllocFailed<T>) -> StringFault {
+        StringFault::Memory
+    }
 }
 
 // The bytes that a quoted string means, and how long its spelling is.
@@ -56,11 +64,11 @@ fn digit(byte: u8) -> Option<u8>
     }
 }
 
-// What a byte behind a backslash does.
-fn escaped(byte: u8) -> Step
+// What a byte behind a backslash does; none where it is unknown there.
+fn escaped(byte: u8) -> Option<Step>
     ensures { result ≡ escape_of byte }
 {
-    match byte {
+    Some(match byte {
         b'n' => Step::Gives(b'\n'),
         b't' => Step::Gives(b'\t'),
         b'r' => Step::Gives(b'\r'),
@@ -68,29 +76,29 @@ fn escaped(byte: u8) -> Step
         b'\\' => Step::Gives(b'\\'),
         b'"' => Step::Gives(b'"'),
         b'x' => Step::Goes(Spot::High),
-        _ => Step::Fails,
-    }
+        _ => return None,
+    })
 }
 
-// What a byte does.
-pub fn step_of(spot: Spot, byte: u8) -> Step
+// What a byte does; none where it belongs to no escape.
+pub fn step_of(spot: Spot, byte: u8) -> Option<Step>
     ensures { result ≡ step_of spot byte }
 {
     match spot {
-        Spot::Plain => match byte {
+        Spot::Plain => Some(match byte {
             b'"' => Step::Closes,
             b'\\' => Step::Goes(Spot::Escape),
             _ => Step::Gives(byte),
-        },
+        }),
         Spot::Escape => escaped(byte),
-        Spot::High => match digit(byte) {
-            Some(value) => Step::Goes(Spot::Low(value)),
-            None => Step::Fails,
-        },
-        Spot::Low(high) => match digit(byte) {
-            Some(value) => Step::Gives(high.wrapping_mul(16).wrapping_add(value)),
-            None => Step::Fails,
-        },
+        Spot::High => {
+            let value = digit(byte)?;
+            Some(Step::Goes(Spot::Low(value)))
+        }
+        Spot::Low(high) => {
+            let value = digit(byte)?;
+            Some(Step::Gives(high.wrapping_mul(16).wrapping_add(value)))
+        }
     }
 }
 
@@ -101,16 +109,14 @@ pub fn read_quoted(heap: Global, text: &[u8]) -> Result<Quoted, StringFault>
     let mut bytes = Vec::new(heap);
     let mut spot = Spot::Plain;
     for (i, byte) in text.iter().enumerate() {
-        match step_of(spot, *byte) {
+        let step = step_of(spot, *byte).ok_or(StringFault::Escape)?;
+        match step {
             Step::Goes(next) => spot = next,
             Step::Gives(value) => {
-                if bytes.push(value).is_err() {
-                    return Err(StringFault::Memory);
-                }
+                bytes.push(value)?;
                 spot = Spot::Plain;
             }
             Step::Closes => return Ok(Quoted { bytes, len: i + 1 }),
-            Step::Fails => return Err(StringFault::Escape),
         }
     }
     Err(StringFault::Unclosed)

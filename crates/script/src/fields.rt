@@ -1,11 +1,12 @@
 // The fields of a line: words, numbers and quoted strings, with blanks between them.
-ghost use Rattle.std.specs.Prelude.{◌≡◌, ℕ, ◌<◌, ◌≤◌, true, false, length, slice_index};
-ghost use Rattle.script.specs.Fields.{is_blank};
+ghost use Rattle.std.specs.Prelude.{◌≡◌, length};
+ghost use Rattle.script.specs.Fields.{is_blank, run_of, behind_run, first_word, behind_word};
 
 use crate::error::Wrong;
-use crate::escape::{StringFault, read_quoted};
-use crate::number::{NumberFault, read_number};
+use crate::escape::read_quoted;
+use crate::number::read_number;
 use std::alloc::Global;
+use widths::tables::Table;
 
 // Space, tab and CR.
 fn is_blank(byte: u8) -> bool
@@ -14,104 +15,130 @@ fn is_blank(byte: u8) -> bool
     byte == b' ' || byte == b'\t' || byte == b'\r'
 }
 
-// How many blanks a text begins with.
-fn blanks(text: &[u8]) -> usize
-    ensures within { result ≤ length text.now }
-    ensures before { (k : ℕ) → k < result → is_blank (slice_index text.now k) ≡ true }
-    ensures found { result < length text.now → is_blank (slice_index text.now result) ≡ false }
+// The bytes at a text's front that are blanks, or that are none, as is asked; and what stands behind them.
+fn split_run(text: &[u8], blank: bool) -> (&[u8], &[u8])
+    ensures run { result.0.now ≡ run_of blank text.now }
+    ensures behind { result.1.now ≡ behind_run blank text.now }
 {
-    for (i, byte) in text.iter().enumerate() {
-        if !is_blank(*byte) {
-            return i;
-        }
-    }
-    text.len()
+    text.split_at(run_len(text, blank))
 }
 
-// How many bytes stand before a text's first blank.
-fn word_len(text: &[u8]) -> usize
-    ensures within { result ≤ length text.now }
-    ensures before { (k : ℕ) → k < result → is_blank (slice_index text.now k) ≡ false }
-    ensures found { result < length text.now → is_blank (slice_index text.now result) ≡ true }
+// How many bytes at a text's front are blanks, or are none, as is asked.
+fn run_len(text: &[u8], blank: bool) -> usize
+    ensures { result ≡ length (run_of blank text.now) }
 {
-    for (i, byte) in text.iter().enumerate() {
-        if is_blank(*byte) {
-            return i;
+    text.iter()
+        .take_while(|byte| is_blank(**byte) == blank)
+        .count()
+}
+
+// What is left to read of a line, and where its strings are kept.
+#[derive(Drop)]
+pub(crate) struct Fields<'a> {
+    pub(crate) heap: Global,
+    rest: &'a [u8],
+}
+
+impl<'a> Fields<'a> {
+    // The fields of a whole line.
+    pub(crate) fn new(heap: Global, line: &'a [u8]) -> Fields<'a>
+        ensures { result.rest.now ≡ line.now }
+    {
+        Fields { heap, rest: line }
+    }
+
+    // The word that comes next, empty where there is none.
+    pub(crate) fn word(&mut self) -> &'a [u8]
+        ensures word { result.now ≡ first_word self.old.rest.now }
+        ensures rest { self.new.rest.now ≡ behind_word self.old.rest.now }
+    {
+        let (_, behind) = split_run(self.rest, true);
+        let (word, rest) = split_run(behind, false);
+        self.rest = rest;
+        word
+    }
+
+    // The word that comes next, as text.
+    pub(crate) fn name(&mut self) -> Result<&'a str, Wrong> {
+        Ok(std::str::from_utf8(self.word())?)
+    }
+
+    // The number that comes next.
+    pub(crate) fn number(&mut self) -> Result<usize, Wrong> {
+        Ok(read_number(self.word())?)
+    }
+
+    // The number that comes next, at most 65,535.
+    pub(crate) fn small(&mut self) -> Result<u16, Wrong> {
+        u16::try_from(self.number()?).map_err(|_| Wrong::Range)
+    }
+
+    // The bytes of the quoted string that comes next.
+    pub(crate) fn string(&mut self) -> Result<Vec<u8>, Wrong> {
+        let (_, behind) = split_run(self.rest, true);
+        let inner = behind.strip_prefix(b"\"").ok_or(Wrong::NoString)?;
+        let quoted = read_quoted(self.heap, inner)?;
+        self.rest = &inner[quoted.len..];
+        Ok(quoted.bytes)
+    }
+
+    // Whether only blanks are left.
+    pub(crate) fn is_empty(&self) -> bool {
+        self.rest.iter().all(|byte| is_blank(*byte))
+    }
+
+    // Refuses a line on which more is left.
+    pub(crate) fn end(&self) -> Result<(), Wrong> {
+        if self.is_empty() {
+            Ok(())
+        } else {
+            Err(Wrong::More)
         }
     }
-    text.len()
-}
 
-// The first word, empty where there is none, and what stands behind it.
-pub(crate) fn take_word(text: &[u8]) -> (&[u8], &[u8]) {
-    let start = blanks(text);
-    let rest = &text[start..];
-    let len = word_len(rest);
-    (&rest[0..len], &rest[len..])
-}
-
-// The first word as text, and what stands behind it.
-pub(crate) fn take_name(text: &[u8]) -> Result<(&str, &[u8]), Wrong> {
-    let (word, rest) = take_word(text);
-    match std::str::from_utf8(word) {
-        Ok(name) => Ok((name, rest)),
-        Err(_) => Err(Wrong::BadWord),
+    // The one number that is left.
+    pub(crate) fn last_number(&mut self) -> Result<usize, Wrong> {
+        let number = self.number()?;
+        self.end()?;
+        Ok(number)
     }
-}
 
-// The number that comes next, and what stands behind it.
-pub(crate) fn take_number(text: &[u8]) -> Result<(usize, &[u8]), Wrong> {
-    let (word, rest) = take_word(text);
-    match read_number(word) {
-        Ok(number) => Ok((number, rest)),
-        Err(NumberFault::Digits) => Err(Wrong::NoNumber),
-        Err(NumberFault::Large) => Err(Wrong::Range),
+    // The one string that is left.
+    pub(crate) fn last_string(&mut self) -> Result<Vec<u8>, Wrong> {
+        let string = self.string()?;
+        self.end()?;
+        Ok(string)
     }
-}
 
-// The number that comes next, at most 65,535, and what stands behind it.
-pub(crate) fn take_small(text: &[u8]) -> Result<(u16, &[u8]), Wrong> {
-    let (number, rest) = take_number(text)?;
-    match u16::try_from(number) {
-        Ok(small) => Ok((small, rest)),
-        Err(_) => Err(Wrong::Range),
+    // The one word that is left, as text.
+    pub(crate) fn last_name(&mut self) -> Result<&'a str, Wrong> {
+        let name = self.name()?;
+        self.end()?;
+        Ok(name)
     }
-}
 
-// The bytes of the quoted string that comes next, and what stands behind it.
-pub(crate) fn take_string(heap: Global, text: &[u8]) -> Result<(Vec<u8>, &[u8]), Wrong> {
-    let start = blanks(text);
-    if start == text.len() || text[start] != b'"' {
-        return Err(Wrong::NoString);
-    }
-    let inner = &text[start + 1..];
-    match read_quoted(heap, inner) {
-        Ok(quoted) => {
-            let len = quoted.len;
-            Ok((quoted.bytes, &inner[len..]))
+    // What the one word that is left says, of two words that say something.
+    pub(crate) fn last_choice<T: Copy>(
+        &mut self,
+        one: (&'static str, T),
+        other: (&'static str, T),
+    ) -> Result<T, Wrong> {
+        match self.last_name()? {
+            name if name == one.0 => Ok(one.1),
+            name if name == other.0 => Ok(other.1),
+            _ => Err(Wrong::Choice(one.0, other.0)),
         }
-        Err(StringFault::Unclosed) => Err(Wrong::Unclosed),
-        Err(StringFault::Escape) => Err(Wrong::Escape),
-        Err(StringFault::Memory) => Err(Wrong::Memory),
     }
-}
 
-// Whether only blanks are left.
-pub(crate) fn is_empty(text: &[u8]) -> bool {
-    blanks(text) == text.len()
-}
+    // `on` or `off`.
+    pub(crate) fn last_switch(&mut self) -> Result<bool, Wrong> {
+        self.last_choice(("on", true), ("off", false))
+    }
 
-// Whether a line says nothing: it is blank, or its first word begins with `#`.
-pub(crate) fn is_comment(line: &[u8]) -> bool {
-    let (word, _) = take_word(line);
-    word.is_empty() || word[0] == b'#'
-}
-
-// Refuses a line on which more is left.
-pub(crate) fn take_end(text: &[u8]) -> Result<(), Wrong> {
-    if is_empty(text) {
-        Ok(())
-    } else {
-        Err(Wrong::More)
+    // The width table of that name.
+    pub(crate) fn last_table(&mut self) -> Result<Table, Wrong> {
+        self.last_name()?
+            .parse::<Table>()
+            .map_err(|_| Wrong::Choice("latin", "eastern"))
     }
 }

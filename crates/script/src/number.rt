@@ -1,5 +1,5 @@
 // Numbers in a script.
-ghost use Rattle.std.specs.Prelude.{◌≡◌};
+ghost use Rattle.std.specs.Prelude.{◌≡◌, ◌+◌, ◌*◌, ◌^◌, ◌≤◌, MatchResult};
 ghost use Rattle.script.specs.Numbers.{Numbers};
 
 // Why a word is no number that can be used.
@@ -23,14 +23,16 @@ pub fn read_number(word: &[u8]) -> Result<usize, NumberFault>
         if !byte.is_ascii_digit() {
             return Err(NumberFault::Digits);
         }
-        let digit = (*byte - b'0') as usize;
-        match value.checked_mul(10) {
-            Some(tens) => match tens.checked_add(digit) {
-                Some(sum) => value = sum,
-                None => return Err(NumberFault::Large),
-            },
-            None => return Err(NumberFault::Large),
-        }
+        let digit = usize::from(*byte - b'0');
+        value = with_digit(value, digit)?;
     }
     Ok(value)
+}
+
+// A number with a digit behind it.
+fn with_digit(value: usize, digit: usize) -> Result<usize, NumberFault>
+    ensures { MatchResult result (λ n. n ≡ value * 10 + digit) (λ e. (e ≡ NumberFault.Large) × (2 ^ 64 ≤ value * 10 + digit)) }
+{
+    let tens = value.checked_mul(10).ok_or(NumberFault::Large)?;
+    tens.checked_add(digit).ok_or(NumberFault::Large)
 }

@@ -1,11 +1,10 @@
 // A script, read line by line.
-ghost use Rattle.std.specs.Prelude.{◌≤◌, length};
-
-use crate::act::{ScriptAct, ScriptLine, read_act};
+use crate::act::{ScriptAct, ScriptLine};
 use crate::error::{ScriptError, Wrong};
-use crate::fields::{is_comment, take_name};
-use crate::settings::Settings;
+use crate::fields::Fields;
+use crate::settings::{Setting, Settings};
 use std::alloc::Global;
+use text::lines::Lines;
 
 // The settings, the acts up to the first line that cannot be read, and what is wrong there.
 #[derive(Drop)]
@@ -15,53 +14,25 @@ pub struct Script {
     pub error: Option<ScriptError>,
 }
 
-// How many bytes stand before a text's first LF.
-fn line_len(text: &[u8]) -> usize
-    ensures { result ≤ length text.now }
-{
-    for (i, byte) in text.iter().enumerate() {
-        if *byte == b'\n' {
-            return i;
-        }
-    }
-    text.len()
-}
-
-// Whether a word is that of a setting.
-fn is_setting(name: &str) -> bool {
-    matches!(
-        name,
-        "size"
-            | "table"
-            | "prompt"
-            | "colours"
-            | "holds"
-            | "highlighter"
-            | "caption"
-            | "pace"
-            | "paper"
-            | "fault"
-    )
-}
-
 impl Script {
     // One line.
-    fn read_line(&mut self, heap: Global, number: usize, line: &[u8]) -> Result<(), Wrong> {
-        if is_comment(line) {
+    fn read_line(&mut self, line: usize, mut fields: Fields<'_>) -> Result<(), Wrong> {
+        let word = fields.word();
+        if word.is_empty() || word[0] == b'#' {
             return Ok(());
         }
-        let (name, fields) = take_name(line)?;
-        if let Some(act) = read_act(heap, name, fields)? {
-            self.acts.push(ScriptLine { line: number, act })?;
+        let name = std::str::from_utf8(word)?;
+        if let Some(act) = ScriptAct::read(name, &mut fields)? {
+            self.acts.push(ScriptLine { line, act })?;
             return Ok(());
         }
-        if is_setting(name) && !self.acts.is_empty() {
+        let Some(setting) = Setting::named(name) else {
+            return Err(Wrong::UnknownWord(String::from_str(fields.heap, name)?));
+        };
+        if !self.acts.is_empty() {
             return Err(Wrong::LateSetting);
         }
-        if self.settings.set(heap, name, fields)? {
-            return Ok(());
-        }
-        Err(Wrong::UnknownWord(String::from_str(heap, name)?))
+        self.settings.set(setting, &mut fields)
     }
 }
 
@@ -72,19 +43,11 @@ pub fn read_script(heap: Global, bytes: &[u8]) -> Result<Script, Wrong> {
         acts: Vec::new(heap),
         error: None,
     };
-    let mut line: usize = 0;
-    let mut at = 0;
-    while at < bytes.len() {
-        let end = at + line_len(&bytes[at..]);
-        line = line.saturating_add(1);
-        match script.read_line(heap, line, &bytes[at..end]) {
-            Ok(()) => {}
-            Err(wrong) => {
-                script.error = Some(ScriptError { line, wrong });
-                return Ok(script);
-            }
+    for (line, text) in (1..).zip(Lines::new(bytes)) {
+        if let Err(wrong) = script.read_line(line, Fields::new(heap, text)) {
+            script.error = Some(ScriptError { line, wrong });
+            break;
         }
-        at = end.saturating_add(1);
     }
     Ok(script)
 }

@@ -1,15 +1,12 @@
 // The settings of a script.
+ghost use Rattle.std.specs.Prelude.{IfOk, IsOkUnless};
+
 use crate::error::Wrong;
-use crate::fields::{is_empty, take_end, take_name, take_number, take_small, take_string};
+use crate::fields::Fields;
+use crate::number::read_number;
 use faults::fault::{Fault, FaultAnswer};
 use std::alloc::Global;
-
-// The width tables.
-#[derive(Clone, Copy)]
-pub enum Table {
-    Latin,
-    Eastern,
-}
+use widths::tables::Table;
 
 // The highlighters.
 #[derive(Clone, Copy)]
@@ -40,40 +37,57 @@ pub struct Settings {
 
 const PAPER: usize = 10_000;
 
-// The one number of a setting.
-fn one_number(fields: &[u8]) -> Result<usize, Wrong> {
-    let (number, rest) = take_number(fields)?;
-    take_end(rest)?;
-    Ok(number)
+// The settings, as a script names them.
+#[derive(Clone, Copy)]
+pub(crate) enum Setting {
+    Size,
+    Table,
+    Prompt,
+    Colours,
+    Holds,
+    Highlighter,
+    Caption,
+    Pace,
+    Paper,
+    Fault,
 }
 
-// Whether the first of two words is said.
-fn one_of(fields: &[u8], first: &'static str, second: &'static str) -> Result<bool, Wrong> {
-    let (name, rest) = take_name(fields)?;
-    take_end(rest)?;
-    if name == first {
-        Ok(true)
-    } else if name == second {
-        Ok(false)
-    } else {
-        Err(Wrong::Choice(first, second))
+impl Setting {
+    // The setting of that name.
+    pub(crate) fn named(name: &str) -> Option<Setting> {
+        Some(match name {
+            "size" => Setting::Size,
+            "table" => Setting::Table,
+            "prompt" => Setting::Prompt,
+            "colours" => Setting::Colours,
+            "holds" => Setting::Holds,
+            "highlighter" => Setting::Highlighter,
+            "caption" => Setting::Caption,
+            "pace" => Setting::Pace,
+            "paper" => Setting::Paper,
+            "fault" => Setting::Fault,
+            _ => return None,
+        })
     }
 }
 
 // How a call goes wrong: `down`, `interrupted`, or how many bytes it takes.
-fn take_answer(fields: &[u8]) -> Result<FaultAnswer, Wrong> {
-    let (name, rest) = take_name(fields)?;
-    let answer = match name {
+fn read_answer(word: &str) -> Result<FaultAnswer, Wrong> {
+    Ok(match word {
         "down" => FaultAnswer::Down,
         "interrupted" => FaultAnswer::Interrupted,
-        _ => return Ok(FaultAnswer::Takes(one_number(fields)?)),
-    };
-    take_end(rest)?;
-    Ok(answer)
+        _ => FaultAnswer::Takes(read_number(word.as_bytes())?),
+    })
 }
 
 impl Settings {
-    pub fn new(heap: Global) -> Result<Settings, Wrong> {
+    ghost use Rattle.script.specs.Defaults.{IsDefault};
+
+    // The settings of a script that says none.
+    pub fn new(heap: Global) -> Result<Settings, Wrong>
+        ensures ok { IfOk result IsDefault }
+        ensures err { IsOkUnless result Wrong.Memory }
+    {
         Ok(Settings {
             cols: 80,
             rows: 24,
@@ -90,78 +104,61 @@ impl Settings {
         })
     }
 
-    fn set_size(&mut self, fields: &[u8]) -> Result<(), Wrong> {
-        let (cols, rest) = take_small(fields)?;
-        let (rows, rest) = take_small(rest)?;
-        take_end(rest)?;
+    fn set_size(&mut self, fields: &mut Fields<'_>) -> Result<(), Wrong> {
+        let cols = fields.small()?;
+        let rows = fields.small()?;
+        fields.end()?;
         self.cols = cols;
         self.rows = rows;
         Ok(())
     }
 
-    fn set_prompt(&mut self, heap: Global, fields: &[u8]) -> Result<(), Wrong> {
-        let (raw, rest) = take_string(heap, fields)?;
-        if is_empty(rest) {
-            self.styled = Vec::from_slice(heap, raw.as_slice())?;
+    fn set_prompt(&mut self, fields: &mut Fields<'_>) -> Result<(), Wrong> {
+        let raw = fields.string()?;
+        let styled = if fields.is_empty() {
+            raw.clone()?
         } else {
-            let (styled, rest) = take_string(heap, rest)?;
-            take_end(rest)?;
-            self.styled = styled;
-        }
+            fields.last_string()?
+        };
         self.raw = raw;
+        self.styled = styled;
         Ok(())
     }
 
-    fn add_caption(&mut self, heap: Global, fields: &[u8]) -> Result<(), Wrong> {
-        let (caption, rest) = take_string(heap, fields)?;
-        take_end(rest)?;
+    fn add_caption(&mut self, fields: &mut Fields<'_>) -> Result<(), Wrong> {
+        let mut caption = fields.last_string()?;
+        caption.push(b'\n')?;
         self.captions.extend_from_slice(caption.as_slice())?;
-        self.captions.push(b'\n')?;
         Ok(())
     }
 
-    fn add_fault(&mut self, fields: &[u8]) -> Result<(), Wrong> {
-        let (call, rest) = take_number(fields)?;
-        let answer = take_answer(rest)?;
+    fn add_fault(&mut self, fields: &mut Fields<'_>) -> Result<(), Wrong> {
+        let call = fields.number()?;
+        let answer = read_answer(fields.name()?)?;
+        fields.end()?;
         self.faults.push(Fault { call, answer })?;
         Ok(())
     }
 
-    // The settings of one word or number.
-    fn set_word(&mut self, name: &str, fields: &[u8]) -> Result<bool, Wrong> {
-        match name {
-            "table" => {
-                self.table = if one_of(fields, "latin", "eastern")? {
-                    Table::Latin
-                } else {
-                    Table::Eastern
-                };
+    // Takes a setting; where it cannot be read, nothing has changed.
+    pub(crate) fn set(&mut self, setting: Setting, fields: &mut Fields<'_>) -> Result<(), Wrong> {
+        match setting {
+            Setting::Size => self.set_size(fields)?,
+            Setting::Table => self.table = fields.last_table()?,
+            Setting::Prompt => self.set_prompt(fields)?,
+            Setting::Colours => self.colours = fields.last_switch()?,
+            Setting::Holds => self.holds = fields.last_switch()?,
+            Setting::Highlighter => {
+                self.highlighting = fields.last_choice(
+                    ("plain", Highlighting::Plain),
+                    ("brackets", Highlighting::Brackets),
+                )?;
             }
-            "highlighter" => {
-                self.highlighting = if one_of(fields, "plain", "brackets")? {
-                    Highlighting::Plain
-                } else {
-                    Highlighting::Brackets
-                };
-            }
-            "colours" => self.colours = one_of(fields, "on", "off")?,
-            "holds" => self.holds = one_of(fields, "on", "off")?,
-            "pace" => self.pace = one_number(fields)?,
-            "paper" => self.paper = one_number(fields)?,
-            _ => return Ok(false),
+            Setting::Caption => self.add_caption(fields)?,
+            Setting::Pace => self.pace = fields.last_number()?,
+            Setting::Paper => self.paper = fields.last_number()?,
+            Setting::Fault => self.add_fault(fields)?,
         }
-        Ok(true)
-    }
-
-    // Takes a setting; false, with nothing changed, where the word is that of no setting.
-    pub(crate) fn set(&mut self, heap: Global, name: &str, fields: &[u8]) -> Result<bool, Wrong> {
-        match name {
-            "size" => self.set_size(fields)?,
-            "prompt" => self.set_prompt(heap, fields)?,
-            "caption" => self.add_caption(heap, fields)?,
-            "fault" => self.add_fault(fields)?,
-            _ => return self.set_word(name, fields),
-        }
-        Ok(true)
+        Ok(())
     }
 }
