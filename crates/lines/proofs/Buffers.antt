@@ -1,48 +1,58 @@
 -- What always holds of a line buffer, and what a change leaves.
-use Rattle.std.proofs.Common.{◌≡◌, ℕ, ◌+◌, ◌*◌, ◌≤◌, Bool, true, List, ◌++◌, length, take, drop, IsUtf8, Decides, sym, ap, ◌∙◌, subst, arith}
+use Rattle.std.proofs.Common.{◌≡◌, ℕ, zero, suc, ◌+◌, ◌*◌, ◌≤◌, true, List, [], ◌++◌, length, take, drop, refl, sym, ap, ◌∙◌, subst, arith, length-append, length-drop}
+use Rattle.buffer.proofs.Buffers.{contents-short}
+use Rattle.buffer.proofs.Repeats.{length-repeat}
+use Rattle.buffer.specs.Contents.{contents}
+use Rattle.buffer.specs.declared.buffer.Buffer.{Buffer}
 use Rattle.lines.specs.Lines.{line_of}
 use Rattle.lines.specs.declared.line_buffer.LineBuffer.{LineBuffer}
 use Rattle.page.proofs.Computing.{good-boundary, good-bytes, good-front, good-text}
-use Rattle.page.proofs.Spelt.{insert-boundary, insert-good, one-good}
+use Rattle.page.proofs.Spelt.{good_none, insert-boundary, insert-good, one-good}
 use Rattle.page.specs.Acts.{times}
 use Rattle.page.specs.Computed.{good_bytes}
 use Rattle.page.specs.Rules.{AtBoundary, OneCharacter}
-use Rattle.std.proofs.lemmas.List.{length-take-le, take-take}
-use Rattle.text.proofs.Spelling.{good-text-utf8}
+use Rattle.std.proofs.lemmas.List.{length-take-le}
+use Rattle.std.specs.List.{repeat}
 use Rattle.text.specs.Texts.{GoodText}
 
-pub line-length : (b : LineBuffer) → length (line_of b) ≡ b.len
-line-length b = length-take-le b.len b.buf (omega (arith, b.whole, b.within))
+pub line-short : (b : LineBuffer) → length (line_of b) ≤ 4096
+line-short b = contents-short b.line
 
 pub line-good : (b : LineBuffer) → GoodText (line_of b)
 line-good b = good-text (line_of b) b.good
 
-pub line-front : (b : LineBuffer) → take b.pos (line_of b) ≡ take b.pos b.buf
-line-front b = take-take b.pos b.len b.buf b.inside
-
 -- the edit position is not past the line nor inside a character
 pub line-place : (b : LineBuffer) → AtBoundary (line_of b) b.pos
-line-place b = good-boundary (line_of b) b.pos (ap good_bytes (line-front b) ∙ b.front) (omega (arith, line-length b, b.inside))
+line-place b = good-boundary (line_of b) b.pos b.front b.inside
 
--- a test for a place, asked of the line's bytes
-pub place-decides : (b : LineBuffer) (line : List ℕ) (pos : ℕ) (r : Bool) → line ≡ line_of b → (IsUtf8 line → Decides r ((pos ≤ length line) × IsUtf8 (take pos line))) → Decides r (AtBoundary (line_of b) pos)
-place-decides b line pos r e test =
-    subst (λ (l : List ℕ). Decides r (AtBoundary l pos)) e (test (subst IsUtf8 (sym e) (good-text-utf8 (line_of b) (line-good b))))
+-- a text so many times, in the library's word
+pub times-repeat : (n : ℕ) (t : List ℕ) → repeat n t ≡ times n t
+times-repeat zero t = refl
+times-repeat (suc n) t = ap (λ x. t ++ x) (times-repeat n t)
 
--- the front of a table that holds a good text, up to a place of it
-pub front_at : (buf line : List ℕ) (len pos : ℕ) → take len buf ≡ line → good_bytes line ≡ true → AtBoundary line pos → pos ≤ len → good_bytes (take pos buf) ≡ true
-front_at buf line len pos e g b h = ap good_bytes (sym (take-take pos len buf h) ∙ ap (take pos) e) ∙ good-front line pos g b
+-- what a line buffer must know of a line and a position
+pub record Sound (line : Buffer 4096) (pos : ℕ) : Type 0 where
+  pub good : good_bytes (contents line) ≡ true
+  pub inside : pos ≤ length (contents line)
+  pub front : good_bytes (take pos (contents line)) ≡ true
+
+pub sound : (held : Buffer 4096) (line : List ℕ) (pos : ℕ) → contents held ≡ line → GoodText line → AtBoundary line pos → Sound held pos
+sound held line pos e good place =
+    let g = ap good_bytes e ∙ good-bytes line good in
+    record { good = g; inside = omega (arith, ap length e, place.0); front = good-front (contents held) pos g (subst (λ l. AtBoundary l pos) (sym e) place) }
+
+pub nothing_good : good_bytes [] ≡ true
+nothing_good = good-bytes [] good_none
 
 -- a line with characters put in is a good text, and the position behind them is a place in it
-pub record Inserted (b : LineBuffer) (t : List ℕ) (n : ℕ) : Type 0 where
-  pub line : good_bytes (take b.pos (line_of b) ++ (times n t ++ drop b.pos (line_of b))) ≡ true
-  pub place : AtBoundary (take b.pos (line_of b) ++ (times n t ++ drop b.pos (line_of b))) (b.pos + n * length t)
+pub inserted : (b : LineBuffer) (t : List ℕ) (n : ℕ) (held : Buffer 4096) (pos : ℕ) → OneCharacter t → contents held ≡ take b.pos (line_of b) ++ (repeat n t ++ drop b.pos (line_of b)) → pos ≡ b.pos + n * length t → Sound held pos
+inserted b t n held pos o e at =
+    let put = e ∙ ap (λ x. take b.pos (line_of b) ++ (x ++ drop b.pos (line_of b))) (times-repeat n t) in
+    let one = one-good t o in
+    sound held _ pos put (insert-good (line_of b) t b.pos n (line-good b) (line-place b) one) (rw at (insert-boundary (line_of b) t b.pos n (line-good b) (line-place b) one))
 
-pub inserted : (b : LineBuffer) (t : List ℕ) (n : ℕ) → OneCharacter t → Inserted b t n
-inserted b t n o = record {
-  line = good-bytes (take b.pos (line_of b) ++ (times n t ++ drop b.pos (line_of b))) (insert-good (line_of b) t b.pos n (line-good b) (line-place b) (one-good t o));
-  place = insert-boundary (line_of b) t b.pos n (line-good b) (line-place b) (one-good t o);
-}
-
-pub inserted-line : (b : LineBuffer) (t buf : List ℕ) (n : ℕ) → take (b.len + n * length t) buf ≡ take b.pos b.buf ++ (times n t ++ drop b.pos (take b.len b.buf)) → take (b.len + n * length t) buf ≡ take b.pos (line_of b) ++ (times n t ++ drop b.pos (line_of b))
-inserted-line b t buf n e = e ∙ ap (λ (l : List ℕ). l ++ (times n t ++ drop b.pos (line_of b))) (sym (line-front b))
+pub inserted-short : (b : LineBuffer) (t : List ℕ) (n : ℕ) → length (line_of b) + n * length t ≤ 4096 → length (take b.pos (line_of b) ++ (repeat n t ++ drop b.pos (line_of b))) ≤ 4096
+inserted-short b t n room =
+    let rest = drop b.pos (line_of b) in
+    let put = length-append (take b.pos (line_of b)) (repeat n t ++ rest) in
+    omega (arith, room, put, length-append (repeat n t) rest, length-repeat n t, length-take-le b.pos (line_of b) b.inside, length-drop b.pos (line_of b), b.inside)

@@ -1,14 +1,15 @@
 -- Bytes that are one character, and bytes that are not.
-use Rattle.std.proofs.Common.{◌≡◌, ℕ, ◌*◌, ◌≤◌, Bool, false, eqb, List, [], ◌++◌, length, drop, Decides, sym, ap, ◌∙◌, subst, append-nil, mul-le-mul, arith}
+use Rattle.std.proofs.Common.{◌≡◌, ℕ, ◌*◌, ◌≤◌, Bool, true, false, eqb, List, [], ◌++◌, length, drop, Some, None, Option, Decides, sym, ap, ◌∙◌, refl, subst, append-nil, mul-le-mul, arith}
 use lib.Utf8.{encode}
 use Rattle.page.specs.Rules.{OneCharacter}
 use Rattle.std.proofs.lemmas.List.{drop_all}
-use Rattle.std.proofs.lemmas.Bool.{eqb-true, false≢true}
+use Rattle.std.proofs.lemmas.Bool.{eqb-false, eqb-true, false≢true}
 use Rattle.std.proofs.lemmas.Str.{length-encode, len_utf8_bounds}
 use Rattle.std.proofs.lemmas.Bool.Decides.{Decides-like}
+use Rattle.std.specs.Option.{MatchOption}
 use Rattle.text.proofs.Decodes.{front_same}
 use Rattle.text.specs.Characters.{Good}
-use Rattle.text.specs.Decoding.{Front, NoCharacter}
+use Rattle.text.specs.Decoding.{Decodes, Front, NoCharacter}
 use Rattle.text.specs.declared.decode.Decoded.{Decoded}
 
 -- the character found at the front is the one that the bytes are
@@ -16,7 +17,7 @@ one_same : (bs : List ℕ) (d : Decoded) → Front bs d → (o : OneCharacter bs
 one_same bs d f (c, g, e) = front_same bs [] c d f (sym e ∙ sym (append-nil (encode c)))
 
 -- a character found that takes all bytes
-pub one_found : (bs : List ℕ) (d : Decoded) (r : Bool) → Front bs d → d.len ≡ length bs → Decides r (Good d.code) → Decides r (OneCharacter bs)
+one_found : (bs : List ℕ) (d : Decoded) (r : Bool) → Front bs d → d.len ≡ length bs → Decides r (Good d.code) → Decides r (OneCharacter bs)
 one_found bs d r f e good =
     let rest : drop d.len bs ≡ [] = drop_all d.len bs (omega arith) in
     Decides-like r
@@ -24,15 +25,24 @@ one_found bs d r f e good =
     (λ o. subst Good (sym (one_same bs d f o).0) o.1) good
 
 -- a character found that takes fewer
-pub one-longer : (bs : List ℕ) (d : Decoded) → Front bs d → (d.len ≡ length bs → ⊥) → Decides (eqb d.len (length bs)) (OneCharacter bs)
+one-longer : (bs : List ℕ) (d : Decoded) → Front bs d → (d.len ≡ length bs → ⊥) → Decides false (OneCharacter bs)
 one-longer bs d f n = (
-  (λ e. absurd (n (eqb-true d.len (length bs) e))),
+  (λ e. absurd (false≢true e)),
   λ o. absurd (n (f.len ∙ ap (λ c. length (encode c)) (one_same bs d f o).0 ∙ ap length o.2)),
 )
 
 -- no character found
-pub one_none : (bs : List ℕ) → NoCharacter bs → Decides false (OneCharacter bs)
+one_none : (bs : List ℕ) → NoCharacter bs → Decides false (OneCharacter bs)
 one_none bs n = ((λ e. absurd (false≢true e)), λ o. absurd (n o.0 [] o.1.0 (sym o.2 ∙ sym (append-nil (encode o.0)))))
+
+-- a test of the character found, if there is one
+pub one-decides : (bs : List ℕ) (found : Option Decoded) (r : Bool) → Decodes bs found → MatchOption found (r ≡ false) (λ d. (d.len ≡ length bs → Decides r (Good d.code)) × ((d.len ≡ length bs → ⊥) → r ≡ false)) → Decides r (OneCharacter bs)
+one-decides bs None r n e = subst (λ x. Decides x (OneCharacter bs)) (sym e) (one_none bs n)
+one-decides bs (Some d) r f t = by (eqb d.len (length bs)) refl
+  where
+    by : (b : Bool) → eqb d.len (length bs) ≡ b → Decides r (OneCharacter bs)
+    by true e = let all = eqb-true d.len (length bs) e in one_found bs d r f all (t.0 all)
+    by false e = let fewer = eqb-false d.len (length bs) e in subst (λ x. Decides x (OneCharacter bs)) (sym (t.1 fewer)) (one-longer bs d f fewer)
 
 one-short : (bs : List ℕ) → OneCharacter bs → length bs ≤ 4
 one-short bs (c, g, e) = omega (arith, ap length e, length-encode c, len_utf8_bounds c)

@@ -4,4 +4,3 @@ pub mod Prompts
 pub mod Rules
 mod Characters
 mod Forms
-mod Puts

@@ -1,10 +1,10 @@
 -- What always holds of a prompt.
-use Rattle.std.proofs.Common.{◌≤◌, length, arith}
+use Rattle.std.proofs.Common.{◌≤◌, length}
+use Rattle.buffer.proofs.Buffers.{contents-short}
 use Rattle.lines.specs.Prompts.{raw_of, styled_of, visible_of}
 use Rattle.lines.specs.declared.prompt.Prompt.{Prompt}
 use Rattle.page.proofs.Computing.{good-text, shows-as-decides}
 use Rattle.page.proofs.Spelt.{spells-decodes}
-use Rattle.std.proofs.lemmas.List.{length-take}
 use Rattle.std.specs.Str.{chars}
 use Rattle.text.specs.Texts.{Spells, Styled}
 
@@ -18,10 +18,10 @@ pub visible-spells : (p : Prompt) → Spells (visible_of p) (chars (visible_of p
 visible-spells p = spells-decodes (visible_of p) (good-text (visible_of p) p.good)
 
 pub raw-short : (p : Prompt) → length (raw_of p) ≤ 512
-raw-short p = omega (arith, length-take p.raw_len p.raw, p.within.0)
+raw-short p = contents-short p.raw
 
 pub styled-short : (p : Prompt) → length (styled_of p) ≤ 512
-styled-short p = omega (arith, length-take p.styled_len p.styled, p.within.1)
+styled-short p = contents-short p.styled
 
 pub visible-short : (p : Prompt) → length (visible_of p) ≤ 512
-visible-short p = omega (arith, length-take p.visible_len p.visible, p.within.2)
+visible-short p = contents-short p.visible

@@ -1,5 +1,6 @@
 -- A line and its edit position: what changes them, and when a change is refused. Assumes nothing.
-use Rattle.std.specs.Prelude.{◌≡◌, ℕ, ◌+◌, ◌*◌, ◌≤◌, List, length, take, Some, None, Ok, Err, Option, Result}
+use Rattle.std.specs.Prelude.{◌≡◌, ℕ, ◌+◌, ◌*◌, ◌≤◌, List, length, Some, None, Ok, Err, Option, Result}
+use Rattle.buffer.specs.Contents.{contents}
 use Rattle.lines.specs.declared.line_buffer.LineBuffer.{LineBuffer}
 use Rattle.page.specs.Rules.{AtBoundary, OneCharacter, Needs, NothingElse}
 use Rattle.text.specs.Texts.{GoodText}
@@ -8,7 +9,7 @@ use Rattle.text.specs.declared.refusal.Refusal.TheVariants.{Long, Place, Text}
 
 -- the line's bytes
 abbrev pub line_of : LineBuffer → List ℕ
-line_of b = take b.len b.buf
+line_of b = contents b.line
 
 -- the buffer has this line and this position
 abbrev pub Holds : List ℕ → ℕ → LineBuffer → Type 0

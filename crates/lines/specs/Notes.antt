@@ -1,15 +1,16 @@
 -- A note, and what changes it. Assumes nothing.
 use Rattle.std.specs.Prelude.{◌≡◌, ℕ, ◌≤◌, List, length, Some, None, Ok, Err, Option, Result}
-use Rattle.lines.specs.Stored.{stored}
+use Rattle.buffer.specs.Contents.{contents}
 use Rattle.lines.specs.declared.note.Note.{Note}
 use Rattle.page.specs.Rules.{Needs, NothingElse}
+use Rattle.std.specs.Option.{option_map}
 use Rattle.text.specs.Texts.{GoodText}
 use Rattle.text.specs.declared.refusal.Refusal.{Refusal}
 use Rattle.text.specs.declared.refusal.Refusal.TheVariants.{Long, Text}
 
 -- the note's bytes, or none
 abbrev pub note_of : Note → Option (List ℕ)
-note_of n = stored n.len n.bytes
+note_of n = option_map contents n.text
 
 -- a new note: a good text, of at most 1,024 bytes
 abbrev pub NoteRule : List ℕ → Option Refusal → Type 0

@@ -1,5 +1,6 @@
 -- Prompts, and what they are made of. Assumes nothing.
-use Rattle.std.specs.Prelude.{◌≡◌, ℕ, List, take, Ok, Err, Result}
+use Rattle.std.specs.Prelude.{◌≡◌, ℕ, List, Ok, Err, Result}
+use Rattle.buffer.specs.Contents.{contents}
 use Rattle.lines.specs.Forms.{Form, PromptFine}
 use Rattle.lines.specs.declared.prompt.Prompt.{Prompt}
 use Rattle.text.specs.Texts.{Spells}
@@ -8,15 +9,15 @@ use Rattle.text.specs.declared.refusal.Refusal.TheVariants as refusal
 
 -- the form for a terminal without colours
 abbrev pub raw_of : Prompt → List ℕ
-raw_of p = take p.raw_len p.raw
+raw_of p = contents p.raw
 
 -- the form for a terminal with colours
 abbrev pub styled_of : Prompt → List ℕ
-styled_of p = take p.styled_len p.styled
+styled_of p = contents p.styled
 
 -- the text that both show
 abbrev pub visible_of : Prompt → List ℕ
-visible_of p = take p.visible_len p.visible
+visible_of p = contents p.visible
 
 -- a prompt made of two forms, with the text that they show
 pub record MadeOf (raw styled : List ℕ) (p : Prompt) : Type 0 where

@@ -3,7 +3,7 @@ ghost use Rattle.lines.specs.Notices.{NoticeRule};
 ghost use Rattle.page.specs.Rules.{refused_by};
 
 use text::refusal::Refusal;
-use text::texts::check_text;
+use text::texts::check_text_within;
 
 // The most bytes of a notice.
 pub const MAX_NOTICE: usize = 4096;
@@ -12,9 +12,5 @@ pub const MAX_NOTICE: usize = 4096;
 pub fn check_notice(text: &[u8]) -> Result<(), Refusal>
     ensures { NoticeRule text.now (refused_by result) }
 {
-    check_text(text)?;
-    if text.len() > MAX_NOTICE {
-        return Err(Refusal::Long);
-    }
-    Ok(())
+    check_text_within(text, MAX_NOTICE)
 }

@@ -9,7 +9,7 @@ impl LineBuffer {
     pub fn line(&self) -> &[u8]
         ensures { result.now ≡ line_of self.now }
     {
-        &self.buf[0..self.len]
+        self.line.as_slice()
     }
 
     // The edit position.
@@ -23,13 +23,13 @@ impl LineBuffer {
     pub fn front(&self) -> &[u8]
         ensures { result.now ≡ take self.now.pos (line_of self.now) }
     {
-        &self.buf[0..self.pos]
+        &self.line()[..self.pos]
     }
 
     // The bytes behind the edit position.
     pub fn rest(&self) -> &[u8]
         ensures { result.now ≡ drop self.now.pos (line_of self.now) }
     {
-        &self.buf[self.pos..self.len]
+        &self.line()[self.pos..]
     }
 }

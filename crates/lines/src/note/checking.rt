@@ -4,17 +4,13 @@ ghost use Rattle.page.specs.Rules.{refused_by};
 
 use crate::note::{MAX_NOTE, Note};
 use text::refusal::Refusal;
-use text::texts::check_text;
+use text::texts::check_text_within;
 
 impl Note {
     // Refuses a text that is not good or too long.
     pub fn check(text: &[u8]) -> Result<(), Refusal>
         ensures { NoteRule text.now (refused_by result) }
     {
-        check_text(text)?;
-        if text.len() > MAX_NOTE {
-            return Err(Refusal::Long);
-        }
-        Ok(())
+        check_text_within(text, MAX_NOTE)
     }
 }

@@ -9,20 +9,20 @@ impl Prompt {
     pub fn raw(&self) -> &[u8]
         ensures { result.now ≡ raw_of self.now }
     {
-        &self.raw[0..self.raw_len]
+        self.raw.as_slice()
     }
 
     // The form for a terminal with colours.
     pub fn styled(&self) -> &[u8]
         ensures { result.now ≡ styled_of self.now }
     {
-        &self.styled[0..self.styled_len]
+        self.styled.as_slice()
     }
 
     // The text that both forms show.
     pub fn visible(&self) -> &[u8]
         ensures { result.now ≡ visible_of self.now }
     {
-        &self.visible[0..self.visible_len]
+        self.visible.as_slice()
     }
 }

@@ -1,8 +1,6 @@
-use Rattle.lines.proofs.Notes.{hint-stored}
+use Rattle.std.proofs.Common.{rules}
+use Rattle.lines.proofs.Notes.{hint-good}
 use Rattle.lines.proofs.note.Note.fill.Goals as goal
 
 pub invariant_of-self : goal.invariant_of-self
-invariant_of-self g c = record { good = (hint-stored (g.N.Hinter.hints c.args.hinter.now c.args.line.now c.args.pos) c.args.self.now.bytes c.hint-len.new.out c.hint-len.result c.hint-len.ensures).0 }
-
-pub returns : goal.returns
-returns g c = (hint-stored (g.N.Hinter.hints c.args.hinter.now c.args.line.now c.args.pos) c.args.self.now.bytes c.hint-len.new.out c.hint-len.result c.hint-len.ensures).1
+invariant_of-self g c = record { good = hint-good _ _ _ _ c.hint-len.ensures _ (search rules) }
