@@ -4,7 +4,7 @@ use Rattle.judging.proofs.Heights.{low-none, not_low}
 use Rattle.judging.specs.Judgements.{Holding, JudgesInsert, JudgesLine, JudgesMessage, JudgesSet, Low, inserted}
 use Rattle.layout.specs.declared.block.Layout.{Layout}
 use Rattle.layout.specs.declared.layout.Position.{Position}
-use Rattle.lines.proofs.Buffers.{line-good, line-length, line-place}
+use Rattle.lines.proofs.Buffers.{line-good, line-place, line-short}
 use Rattle.lines.proofs.Rules.{insert-fine, note-fine, update-fine}
 use Rattle.lines.specs.Lines.{InsertRule, line_of, UpdateRule}
 use Rattle.lines.specs.Notes.{NoteRule}
@@ -18,10 +18,6 @@ use Rattle.terminal.specs.declared.size.Size.{Size}
 use Rattle.text.specs.Texts.{GoodText}
 use Rattle.text.specs.declared.refusal.Refusal.{Refusal}
 use Rattle.text.specs.declared.refusal.Refusal.TheVariants.{Tall}
-
--- the line in a buffer has at most 4,096 bytes
-line-short : (b : LineBuffer) → length (line_of b) ≤ 4096
-line-short b = omega (arith, line-length b, b.within)
 
 module _ (w : ℕ → ℕ) (p : Position) (z : Size) where
   -- places with a layout are held

@@ -1,6 +1,6 @@
 -- Texts behind what is composed, as they are or as a highlighter answers them.
 use Rattle.std.proofs.Common.{◌≡◌, ℕ, ◌+◌, ◌≤◌, Bool, true, false, List, ◌++◌, length, Some, None, Option, sym, refl, subst, arith, length-append}
-use Rattle.lines.proofs.Buffers.{line-length}
+use Rattle.lines.proofs.Buffers.{line-short}
 use Rattle.lines.proofs.Notes.{note-text}
 use Rattle.lines.proofs.Prompts.{raw-short}
 use Rattle.lines.specs.Lines.{line_of}
@@ -11,9 +11,6 @@ use Rattle.lines.specs.declared.note.Note.{Note}
 use Rattle.lines.specs.declared.prompt.Prompt.{Prompt}
 use Rattle.render.proofs.Buffers.{push-length, push-three}
 use Rattle.render.specs.Drawing.{Appends, AppendsTexts, Coloured, NoteLit, StyledTexts, Texts, Uncoloured, note_bytes, texts_of}
-
-pub line-short : (b : LineBuffer) → length (line_of b) ≤ 4096
-line-short b = omega (arith, line-length b, b.within)
 
 pub note-short : (n : Note) → length (note_bytes (note_of n)) ≤ 1024
 note-short n = by (note_of n) refl

@@ -1,10 +1,9 @@
 use Rattle.std.proofs.Common.{ℕ, ◌≤◌, List, length, subst, arith}
 use Rattle.highlight.specs.Answers.{Answers}
-use Rattle.lines.proofs.Buffers.{line-good}
+use Rattle.lines.proofs.Buffers.{line-good, line-short}
 use Rattle.lines.specs.Lines.{line_of}
 use Rattle.page.proofs.Spelt.{spells-decodes}
 use Rattle.render.proofs.Answering.{answer-appends, answer-some, answer-whole, answer-within, rest_of}
-use Rattle.render.proofs.Styling.{line-short}
 use Rattle.std.specs.Str.{chars}
 use Rattle.render.proofs.renderer.PosixRenderer.push_lit_line.Goals as goal
 

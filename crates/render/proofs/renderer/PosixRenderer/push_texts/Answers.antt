@@ -1,10 +1,11 @@
 use Rattle.std.proofs.Common.{◌++◌, length, sym, ap, ◌∙◌, append-nil, arith}
+use Rattle.lines.proofs.Buffers.{line-short}
 use Rattle.lines.proofs.Prompts.{raw-short}
 use Rattle.lines.specs.Lines.{line_of}
 use Rattle.lines.specs.Notes.{note_of}
 use Rattle.lines.specs.Prompts.{raw_of}
 use Rattle.render.proofs.Buffers.{push-length, push-three}
-use Rattle.render.proofs.Styling.{line-short, note-short, plain-appends}
+use Rattle.render.proofs.Styling.{note-short, plain-appends}
 use Rattle.render.specs.Composing.{composed}
 use Rattle.render.specs.Drawing.{note_bytes}
 use Rattle.render.proofs.renderer.PosixRenderer.push_texts.Goals as goal
