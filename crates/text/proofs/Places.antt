@@ -4,7 +4,7 @@ use Rattle.std.proofs.lemmas.Bool.{cases_lt, eqb-true, eq-eqb}
 use Rattle.std.proofs.lemmas.Str.{IsCharBoundary-from_take, IsUtf8-take}
 use Rattle.std.proofs.lemmas.Bool.Decides.{Decides-like, Decides-not}
 use Rattle.std.specs.Str.{IsCharBoundary}
-use Rattle.text.specs.Continuations.{Follows}
+use Rattle.text.specs.Decoding.{Follows}
 
 module _ (bs : List ℕ) (i : ℕ) where
   -- what a test for a place answers

@@ -1,66 +1,71 @@
 -- Runs of digits and semicolons, and looks for a style sequence. Assumes nothing.
-use Rattle.std.proofs.Common.{◌≡◌, ℕ, ◌+◌, ◌-◌, ◌<◌, ◌≤◌, true, false, List, [], ◌∷◌, ◌++◌, length, get_or, drop, Some, None, sym, refl, ap, ◌∙◌, subst, ⊎_elim, append_assoc, arith, length-drop}
-use Rattle.std.proofs.lemmas.List.{drop_all, drop-drop, drop_more, get_or-drop, length_push}
-use Rattle.std.proofs.lemmas.Bool.{and_from, and_parts, cases_lt}
-use Rattle.text.specs.Pieces.{PlainRun, StyleFront}
+use Rattle.std.proofs.Common.{◌≡◌, ℕ, suc, ◌+◌, Bool, true, false, not, cond, ltb, List, [], ◌∷◌, ◌++◌, length, take, drop, Some, None, Option, sym, refl, ap, ◌∙◌, subst, append_assoc, append-nil, arith, take-append-drop}
+use Rattle.std.specs.List.{position, position_or_len}
+use Rattle.std.proofs.lemmas.Bool.{and_from, ltb-false}
+use Rattle.std.proofs.lemmas.Bool.Decides.{not_from_Decides}
+use Rattle.std.proofs.lemmas.List.{take_all}
+use Rattle.std.proofs.lemmas.Slice.Eq.{bytes_eq-Decides}
+use Rattle.std.specs.Borrow.{Bor}
+use Rattle.std.specs.Option.{MatchOption}
+use Rattle.std.specs.Str.{bytes_eq}
+use Rattle.text.specs.Pieces.{StyleFront}
 use Rattle.text.specs.Texts.{is_plain, plain, style}
 use Rattle.text.proofs.Styling.{Stops, run-same}
 
--- digits and semicolons stand from i to j
-pub record PlainTo (bs : List ℕ) (i j : ℕ) : Type 0 where
-  pub parameters : List ℕ
-  pub plainly : plain parameters ≡ true
-  pub bytes : drop i bs ≡ parameters ++ drop j bs
-  pub end : j ≡ i + length parameters
-  pub within : j ≤ length bs
+-- how many digits and semicolons stand at the front
+abbrev run : List ℕ → ℕ
+run bs = position_or_len (λ b. not (is_plain b)) bs
 
-plain_push : (ps : List ℕ) (b : ℕ) → plain ps ≡ true → is_plain b ≡ true → plain (ps ++ (b ∷ [])) ≡ true
-plain_push [] b h e = and_from (is_plain b) true e refl
-plain_push (p ∷ ps) b h e = let k = and_parts (is_plain p) (plain ps) h in and_from (is_plain p) (plain (ps ++ (b ∷ []))) k.0 (plain_push ps b k.1 e)
+-- they are digits and semicolons, and what follows is not
+abbrev Run : List ℕ → ℕ → Type 0
+Run bs n = (plain (take n bs) ≡ true) × Stops (drop n bs)
 
-pub plain-none : (bs : List ℕ) (i : ℕ) → i ≤ length bs → PlainTo bs i i
-plain-none bs i h = record { parameters = []; plainly = refl; bytes = refl; end = omega arith; within = h }
+run-told : (bs : List ℕ) → Run bs (run bs)
+run-told [] = (refl, tt)
+run-told (b ∷ bs) = by (is_plain b) refl (run-told bs)
+  where
+    by : (t : Bool) → is_plain b ≡ t → Run bs (run bs) → Run (b ∷ bs) (cond (not (not t)) (1 + run bs) 0)
+    by true e r = let u : 1 + run bs ≡ suc (run bs) = omega arith in rw u (and_from (is_plain b) _ e r.0, r.1)
+    by false e r = (refl, e)
 
-pub plain_more : (bs : List ℕ) (i j : ℕ) → PlainTo bs i j → j < length bs → is_plain (get_or bs j 0) ≡ true → PlainTo bs i (j + 1)
-plain_more bs i j p h e = record {
-  parameters = p.parameters ++ (get_or bs j 0 ∷ []);
-  plainly = plain_push p.parameters (get_or bs j 0) p.plainly e;
-  bytes = p.bytes ∙ ap (λ l. p.parameters ++ l) (drop_more bs j 0 h) ∙ sym (append_assoc p.parameters (get_or bs j 0 ∷ []) (drop (j + 1) bs));
-  end = omega (arith, p.end, length_push p.parameters (get_or bs j 0));
-  within = omega arith;
-}
+-- what a look for the end of a run tells
+abbrev pub RunEnds : List ℕ → Option ℕ → Type 0
+RunEnds bs None = plain bs ≡ true
+RunEnds bs (Some n) = Run bs n
 
-pub plain-run : (bs : List ℕ) (i j : ℕ) → PlainTo bs i j → (j < length bs → is_plain (get_or bs j 0) ≡ false) → PlainRun bs i j
-plain-run bs i j p s = record { parameters = p.parameters; plainly = p.plainly; bytes = p.bytes; end = p.end; within = p.within; stops = s }
+pub run-ends : (bs : List ℕ) → RunEnds bs (position (λ b. not (is_plain b)) bs)
+run-ends bs = by (ltb (run bs) (length bs)) refl
+  where
+    by : (t : Bool) → ltb (run bs) (length bs) ≡ t → RunEnds bs (cond t (Some (run bs)) None)
+    by true e = run-told bs
+    by false e = subst (λ l. plain l ≡ true) (take_all (run bs) bs (ltb-false _ _ e)) (run-told bs).0
 
--- what follows a run stops it
-stops_at : (bs : List ℕ) (j : ℕ) → (j < length bs → is_plain (get_or bs j 0) ≡ false) → Stops (drop j bs)
-stops_at bs j s = ⊎_elim (λ h. subst Stops (sym (drop_more bs j 0 h)) (s h)) (λ h. subst Stops (sym (drop_all j bs h)) tt) (cases_lt j (length bs))
+-- bytes that open as a style sequence does
+pub opens : (bs qs : List ℕ) → bytes_eq (take 2 bs) (27 ∷ 91 ∷ []) ≡ true → qs ≡ drop 2 bs → bs ≡ 27 ∷ 91 ∷ qs
+opens bs qs h e = sym (take-append-drop 2 bs) ∙ (λ i. (bytes_eq-Decides (take 2 bs) (27 ∷ 91 ∷ [])).0 h i ++ sym e i)
 
-module _ (bs : List ℕ) (at : ℕ) where
-  pub style-short : length bs - at < 2 → StyleFront (drop at bs) None
-  style-short h ps rest g e = omega (arith, ap length e, length-drop at bs)
+-- bytes that go on as a style sequence does behind its opening, or do not
+module _ (bs qs : List ℕ) (opening : bs ≡ 27 ∷ 91 ∷ qs) where
+  behind : (ps rest : List ℕ) → bs ≡ style ps ++ rest → qs ≡ ps ++ (109 ∷ rest)
+  behind ps rest e = ap (drop 2) (sym opening ∙ e) ∙ append_assoc ps (109 ∷ []) rest
 
-  pub style-other : (get_or bs (at + 1) 0 ≡ 91 → ⊥) → StyleFront (drop at bs) None
-  style-other n ps rest g e = n (sym (get_or-drop at bs 1 0) ∙ ap (λ l. get_or l 1 0) e)
+  pub style-endless : plain qs ≡ true → (ps rest : List ℕ) → plain ps ≡ true → bs ≡ style ps ++ rest → ⊥
+  style-endless p ps rest g e =
+      let k = (run-same qs ps [] (109 ∷ rest) p g tt refl (append-nil qs ∙ behind ps rest e)).1 in
+      omega (arith, ap length k)
 
-  module _ (esc : get_or bs at 0 ≡ 27) (bracket : get_or bs (at + 1) 0 ≡ 91) (j : ℕ) (run : PlainRun bs (at + 2) j) (long : at + 1 < length bs) where
-    opening : drop at bs ≡ 27 ∷ 91 ∷ (run.parameters ++ drop j bs)
-    opening =
-        let k : (at + 1) + 1 ≡ at + 2 = omega arith in
-        drop_more bs at 0 (omega arith) ∙ ap (λ l. get_or bs at 0 ∷ l) (drop_more bs (at + 1) 0 long) ∙ (λ i. esc i ∷ bracket i ∷ drop (k i) bs) ∙ ap (λ l. 27 ∷ 91 ∷ l) run.bytes
+  module _ (n : ℕ) (r : Run qs n) where
+    pub style-other : (take 1 (drop n qs) ≡ 109 ∷ [] → ⊥) → (ps rest : List ℕ) → plain ps ≡ true → bs ≡ style ps ++ rest → ⊥
+    style-other h ps rest g e =
+        let k = (run-same (take n qs) ps (drop n qs) (109 ∷ rest) r.0 g r.1 refl (take-append-drop n qs ∙ behind ps rest e)).1 in
+        h (ap (take 1) k)
 
-    pub style-whole : j < length bs → get_or bs j 0 ≡ 109 → StyleFront (drop at bs) (Some (j + 1 - at))
-    style-whole h m =
-        let ps = run.parameters in
-        let n : j + 1 - at ≡ length (style ps) = omega (arith, length_push ps 109, run.end) in
-        let e : drop at bs ≡ style ps ++ drop (j + 1) bs = opening ∙ ap (λ l. 27 ∷ 91 ∷ (ps ++ l)) (drop_more bs j 0 h) ∙ (λ i. 27 ∷ 91 ∷ (ps ++ (m i ∷ drop (j + 1) bs))) ∙ ap (λ l. 27 ∷ 91 ∷ l) (sym (append_assoc ps (109 ∷ []) (drop (j + 1) bs))) in
-        let r : drop (j + 1) bs ≡ drop (j + 1 - at) (drop at bs) = sym (drop-drop (j + 1 - at) at bs ∙ ap (λ i. drop i bs) (let w : at + (j + 1 - at) ≡ j + 1 = omega (arith, run.end) in w)) in
-        (ps, run.plainly, e ∙ ap (λ l. style ps ++ l) r, n)
+    pub style-whole : take 1 (drop n qs) ≡ 109 ∷ [] → bs ≡ style (take n qs) ++ drop 1 (drop n qs)
+    style-whole h =
+        opening ∙ ap (λ l. 27 ∷ 91 ∷ l) (sym (take-append-drop n qs) ∙ ap (λ l. take n qs ++ l) (sym (take-append-drop 1 (drop n qs)) ∙ ap (λ l. l ++ drop 1 (drop n qs)) h) ∙ sym (append_assoc (take n qs) (109 ∷ []) (drop 1 (drop n qs))))
 
-    pub style-open : (j < length bs → get_or bs j 0 ≡ 109 → ⊥) → StyleFront (drop at bs) None
-    style-open n ps rest g e =
-        let t : run.parameters ++ drop j bs ≡ (ps ++ (109 ∷ [])) ++ rest = ap (drop 2) (sym opening ∙ e) in
-        let k = (run-same run.parameters ps (drop j bs) (109 ∷ rest) run.plainly g (stops_at bs j run.stops) refl (t ∙ append_assoc ps (109 ∷ []) rest)).1 in
-        let h : j < length bs = omega (arith, ap length k, length-drop j bs) in
-        n h (ap (λ l. get_or l 0 0) (sym (drop_more bs j 0 h) ∙ k))
+    -- what a look for the `m` behind the run answers
+    pub style-front : (o : Option (Bor (List ℕ))) → MatchOption o (bytes_eq (take 1 (drop n qs)) (109 ∷ []) ≡ false) (λ x. (bytes_eq (take 1 (drop n qs)) (109 ∷ []) ≡ true) × (x.now ≡ drop 1 (drop n qs)) × (length x.now + 1 ≡ length (drop n qs))) → StyleFront bs o
+    style-front None h = style-other (not_from_Decides _ (bytes_eq-Decides (take 1 (drop n qs)) (109 ∷ [])) h)
+    style-front (Some x) h =
+        (take n qs, r.0, style-whole ((bytes_eq-Decides (take 1 (drop n qs)) (109 ∷ [])).0 h.0) ∙ ap (λ l. style (take n qs) ++ l) (sym h.1))

@@ -1,8 +1,10 @@
 -- Good texts: one list of characters each, put together and taken apart. Assumes nothing.
-use Rattle.std.proofs.Common.{◌≡◌, ℕ, ◌<◌, true, List, [], ◌∷◌, ◌++◌, length, get_or, take, drop, None, IsUtf8, sym, refl, ap, ◌∙◌, subst, ⊎_elim, true≢false, append-nil, arith, length-append, take-append-drop}
+use Rattle.std.proofs.Common.{◌≡◌, ℕ, ◌<◌, Bool, true, false, Decides, List, [], ◌∷◌, ◌++◌, length, get_or, take, drop, None, IsUtf8, sym, refl, ap, ◌∙◌, subst, ⊎_elim, true≢false, append-nil, arith, length-append, take-append-drop}
 use lib.Utf8.{scalar, scalars, encode, encodes}
 use Rattle.std.proofs.lemmas.Str.{char_from_byte, cons_from_encodes, encode_same, encodes-append, encodes_same, length-encode, IsUtf8-drop, IsUtf8-take, len_utf8_bounds}
 use Rattle.std.proofs.lemmas.Bool.{and_from}
+use Rattle.std.proofs.lemmas.Bool.Decides.{not_from_Decides}
+use Rattle.std.specs.Bool.{then_some}
 use Rattle.std.specs.Str.{IsCharBoundary}
 use Rattle.text.specs.Characters.{Good, AllGood}
 use Rattle.text.specs.Decoding.{Front}
@@ -48,8 +50,13 @@ good-text-past c rest (cs, s) =
     (g.0, (k.0, (g.1, k.2)))
 
 -- a character that a text may not hold stands at the front
-pub bad-front : (bs : List ℕ) (d : Decoded) → Front bs d → (Good d.code → ⊥) → GoodFront bs None
+bad-front : (bs : List ℕ) (d : Decoded) → Front bs d → (Good d.code → ⊥) → GoodFront bs None
 bad-front bs d f n c rest g same = n (subst Good (encode_same c d.code rest (drop d.len bs) (sym same ∙ f.bytes)).0 g)
+
+-- what a test of the character at the front tells
+pub good-front : (bs : List ℕ) (d : Decoded) (b : Bool) → Front bs d → Decides b (Good d.code) → GoodFront bs (then_some b d)
+good-front bs d true f g = (g.0 refl, f)
+good-front bs d false f g = bad-front bs d f (not_from_Decides false g refl)
 
 pub good-scalars : (cs : List ℕ) → AllGood cs → scalars cs ≡ true
 good-scalars [] g = refl

@@ -1,7 +1,6 @@
 pub mod Characters
 pub mod Texts
 pub mod Decoding
-pub mod Continuations
 pub mod Pieces
 pub mod Checks
 pub mod Refusals

@@ -1,54 +1,44 @@
 -- The steps of a walk over a text: a good character, a style sequence, either of them. Assumes nothing.
-use Rattle.std.specs.Prelude.{◌≡◌, ℕ, ◌+◌, ◌<◌, ◌≤◌, true, false, List, ◌++◌, length, take, drop, Some, None, Option, ◌≢◌, slice_index}
+use Rattle.std.specs.Prelude.{◌≡◌, ℕ, ◌<◌, ◌≤◌, true, List, [], ◌++◌, length, Some, None, Ok, Err, Option, Result, ◌≢◌}
+use Rattle.std.specs.Borrow.{Bor}
 use Rattle.std.proofs.Math.Utf8.{encode, encodes}
 use Rattle.text.specs.Characters.{Good}
 use Rattle.text.specs.Decoding.{Front}
-use Rattle.text.specs.Texts.{GoodText, is_plain, plain, style, Styled, StyledText}
+use Rattle.text.specs.Texts.{plain, style, Styled, StyledText}
 use Rattle.text.specs.declared.decode.Decoded.{Decoded}
-use Rattle.text.specs.declared.styled.Piece.{Piece}
+use Rattle.text.specs.declared.refusal.Refusal.{Refusal}
+use Rattle.text.specs.declared.refusal.Refusal.TheVariants.{Text}
 
 -- a look for a good character at the front
 abbrev pub GoodFront : List ℕ → Option Decoded → Type 0
 GoodFront bs None = (c : ℕ) (rest : List ℕ) → Good c → bs ≢ encode c ++ rest
 GoodFront bs (Some d) = Good d.code × Front bs d
 
--- the good characters at the front take n bytes: all of a good text, and less of any other
-abbrev pub GoodRun : List ℕ → ℕ → Type 0
-GoodRun bs n = (length bs ≤ n → GoodText bs) × (n < length bs → GoodText bs → ⊥)
-
--- the digits and semicolons from i on end at j
-pub record PlainRun (bs : List ℕ) (i j : ℕ) : Type 0 where
-  pub parameters : List ℕ
-  pub plainly : plain parameters ≡ true
-  pub bytes : drop i bs ≡ parameters ++ drop j bs
-  pub end : j ≡ i + length parameters
-  pub within : j ≤ length bs
-  pub stops : j < length bs → is_plain (slice_index bs j) ≡ false
-
--- a look for a style sequence at the front answers its length
-abbrev pub StyleFront : List ℕ → Option ℕ → Type 0
+-- a look for a style sequence at the front answers what stands behind it
+abbrev pub StyleFront : List ℕ → Option (Bor (List ℕ)) → Type 0
 StyleFront bs None = (ps rest : List ℕ) → plain ps ≡ true → bs ≢ style ps ++ rest
-StyleFront bs (Some n) = (ps : List ℕ) × (plain ps ≡ true) × (bs ≡ style ps ++ drop n bs) × (n ≡ length (style ps))
+StyleFront bs (Some rest) = (ps : List ℕ) × (plain ps ≡ true) × (bs ≡ style ps ++ rest.now)
 
--- a piece at the front of a styled text: its first bytes are what it shows
-pub record PieceFront (bs : List ℕ) (p : Piece) : Type 0 where
+-- a piece at the front of a styled text, what it shows, and what stands behind it
+pub record PieceFront (bs shown rest : List ℕ) : Type 0 where
+  pub piece : List ℕ
   pub characters : List ℕ
-  pub styled : Styled (take p.len bs) characters
-  pub visible : take p.shown bs ≡ encodes characters
-  pub shown : p.shown ≡ length (encodes characters)
-  pub fewer : p.shown ≤ p.len
-  pub some : 1 ≤ p.len
-  pub within : p.len ≤ length bs
-  pub after : StyledText bs → StyledText (drop p.len bs)
+  pub bytes : bs ≡ piece ++ rest
+  pub some : 1 ≤ length piece
+  pub styled : Styled piece characters
+  pub visible : shown ≡ encodes characters
+  pub after : StyledText bs → StyledText rest
 
 -- a look for a piece at the front
-abbrev pub NextPiece : List ℕ → Option Piece → Type 0
+abbrev pub NextPiece : List ℕ → Option (Bor (List ℕ) × Bor (List ℕ)) → Type 0
 NextPiece bs None = 0 < length bs → StyledText bs → ⊥
-NextPiece bs (Some p) = PieceFront bs p
+NextPiece bs (Some p) = PieceFront bs p.0.now p.1.now
 
--- the pieces at the front: all of a good styled text, with the length of what it shows, and less of any other
-abbrev pub StyledRun : List ℕ → Piece → Type 0
-StyledRun bs p = (length bs ≤ p.len → (cs : List ℕ) × Styled bs cs × (p.shown ≡ length (encodes cs))) × (p.len < length bs → StyledText bs → ⊥)
+-- a step of a walk over the pieces, which a refusal ends
+abbrev pub TakesPiece : List ℕ → Option (Result (Bor (List ℕ)) Refusal) → List ℕ → Type 0
+TakesPiece bs None rest = (bs ≡ []) × (rest ≡ [])
+TakesPiece bs (Some (Ok shown)) rest = PieceFront bs shown.now rest
+TakesPiece bs (Some (Err e)) rest = (e ≡ Text) × (StyledText bs → ⊥) × (length rest < length bs)
 
 -- a good styled text for whose visible text there is room
 abbrev pub VisibleFits : List ℕ → ℕ → Type 0

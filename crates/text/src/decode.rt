@@ -1,8 +1,9 @@
 // The character at an index of a byte string.
-ghost use Rattle.std.specs.Prelude.{◌≡◌, ◌<◌, ◌≤◌, length, drop, Decides, slice_index};
+ghost use Rattle.std.specs.Prelude.{◌≡◌, length, drop, Decides};
 ghost use Rattle.text.specs.Characters.{is_control, Good};
-ghost use Rattle.text.specs.Continuations.{Follows, Continues, Spelled};
-ghost use Rattle.text.specs.Decoding.{Decodes, Within};
+ghost use Rattle.text.specs.Decoding.{Decodes, Follows, Leads, Within};
+
+use std::str::from_utf8;
 
 // A character, and how many bytes it takes.
 #[derive(Clone, Copy)]
@@ -31,24 +32,32 @@ pub fn char_at(bytes: &[u8], at: usize) -> Option<Decoded>
     ensures decodes { Decodes (drop at bytes.now) result }
     ensures within { Within at (length bytes.now) result }
 {
-    if at >= bytes.len() {
-        return None;
-    }
-    let lead = bytes[at];
+    first_char(bytes.get(at..)?)
+}
+
+// The character that begins the bytes.
+pub(crate) fn first_char(bytes: &[u8]) -> Option<Decoded>
+    ensures decodes { Decodes bytes.now result }
+    ensures within { Within 0 (length bytes.now) result }
+{
+    let len = char_len(*bytes.first()?);
+    let text = from_utf8(bytes.get(..len)?).ok()?;
+    let code = text.chars().next()?;
+    Some(Decoded { code, len })
+}
+
+// How many bytes a character takes that begins with a byte.
+fn char_len(lead: u8) -> usize
+    ensures { Leads lead result }
+{
     if lead < 0x80 {
-        return Some(Decoded {
-            code: lead as char,
-            len: 1,
-        });
-    }
-    if lead < 0xc0 {
-        None
+        1
     } else if lead < 0xe0 {
-        two_bytes(bytes, at)
+        2
     } else if lead < 0xf0 {
-        three_bytes(bytes, at)
+        3
     } else {
-        four_bytes(bytes, at)
+        4
     }
 }
 
@@ -57,68 +66,4 @@ pub(crate) fn is_continuation(byte: u8) -> bool
     ensures { Decides result (Follows byte) }
 {
     0x80 <= byte && byte < 0xc0
-}
-
-// The six bits of the continuation byte at an index.
-fn continuation(bytes: &[u8], at: usize) -> Option<u32>
-    ensures { Continues bytes.now at result }
-{
-    if at >= bytes.len() {
-        return None;
-    }
-    let byte = bytes[at];
-    if is_continuation(byte) {
-        Some((byte - 0x80) as u32)
-    } else {
-        None
-    }
-}
-
-// The character with a number, unless fewer bytes would do or it is no character.
-fn spelled(code: u32, least: u32, len: usize) -> Option<Decoded>
-    ensures { Spelled code least len result }
-{
-    if code < least {
-        return None;
-    }
-    match char::from_u32(code) {
-        Some(code) => Some(Decoded { code, len }),
-        None => None,
-    }
-}
-
-// The character of two bytes at an index.
-fn two_bytes(bytes: &[u8], at: usize) -> Option<Decoded>
-    requires { (at < length bytes.now) × (192 ≤ slice_index bytes.now at) × (slice_index bytes.now at < 224) }
-    ensures decodes { Decodes (drop at bytes.now) result }
-    ensures within { Within at (length bytes.now) result }
-{
-    let second = continuation(bytes, at + 1)?;
-    let code = (bytes[at] - 0xc0) as u32 * 64 + second;
-    spelled(code, 0x80, 2)
-}
-
-// The character of three bytes at an index.
-fn three_bytes(bytes: &[u8], at: usize) -> Option<Decoded>
-    requires { (at < length bytes.now) × (224 ≤ slice_index bytes.now at) × (slice_index bytes.now at < 240) }
-    ensures decodes { Decodes (drop at bytes.now) result }
-    ensures within { Within at (length bytes.now) result }
-{
-    let second = continuation(bytes, at + 1)?;
-    let third = continuation(bytes, at + 2)?;
-    let code = ((bytes[at] - 0xe0) as u32 * 64 + second) * 64 + third;
-    spelled(code, 0x800, 3)
-}
-
-// The character of four bytes at an index.
-fn four_bytes(bytes: &[u8], at: usize) -> Option<Decoded>
-    requires { (at < length bytes.now) × (240 ≤ slice_index bytes.now at) }
-    ensures decodes { Decodes (drop at bytes.now) result }
-    ensures within { Within at (length bytes.now) result }
-{
-    let second = continuation(bytes, at + 1)?;
-    let third = continuation(bytes, at + 2)?;
-    let fourth = continuation(bytes, at + 3)?;
-    let code = (((bytes[at] - 0xf0) as u32 * 64 + second) * 64 + third) * 64 + fourth;
-    spelled(code, 0x10000, 4)
 }

@@ -1,32 +1,21 @@
 // Good styled texts: good characters, with style sequences between them.
-ghost use Rattle.std.specs.Prelude.{◌≡◌, ◌<◌, ◌≤◌, length, drop, slice_index};
-ghost use Rattle.text.specs.Checks.{ChecksStyled, Copied, GivesVisible, ShowsPrompt};
-ghost use Rattle.text.specs.Pieces.{NextPiece, PlainRun, StyleFront, StyledRun, VisibleFits};
+ghost use Rattle.std.specs.Prelude.{◌≡◌, length, not, position};
+ghost use Rattle.text.specs.Checks.{ChecksStyled, GivesVisible, ShowsPrompt};
+ghost use Rattle.text.specs.Pieces.{NextPiece, StyleFront, VisibleFits};
 ghost use Rattle.text.specs.Texts.{is_plain};
 
 use crate::refusal::Refusal;
-use crate::texts::good_char_at;
-
-// The byte that begins a style sequence.
-const ESC: u8 = 27;
-
-// A part of a styled text: how many bytes it takes, and how many of them show.
-#[derive(Clone, Copy)]
-struct Piece {
-    len: usize,
-    shown: usize,
-}
+use crate::texts::good_char;
 
 // Accepts a good styled text and gives the length of its visible text, and refuses any other.
 pub fn check_styled(bytes: &[u8]) -> Result<usize, Refusal>
     ensures { ChecksStyled bytes.now result }
 {
-    let front = styled_front(bytes);
-    if front.len < bytes.len() {
-        Err(Refusal::Text)
-    } else {
-        Ok(front.shown)
+    let mut len = 0;
+    for shown in Pieces(bytes) {
+        len += shown?.len();
     }
+    Ok(len)
 }
 
 // Writes the visible text of a good styled text to the front of `out`, and gives its length.
@@ -37,7 +26,7 @@ pub fn visible_text(bytes: &[u8], out: &mut [u8]) -> Result<usize, Refusal>
     if out.len() < len {
         return Err(Refusal::Long);
     }
-    Ok(copy_visible(bytes, out))
+    copy_visible(bytes, out)
 }
 
 // Writes the visible text of a prompt to the front of `out`, and gives its length. A prompt is a good styled text that is no longer than `out`.
@@ -50,84 +39,82 @@ pub fn visible_prompt<const N: usize>(form: &[u8], out: &mut [u8; N]) -> Result<
     visible_text(form, out).or(Err(Refusal::Prompt))
 }
 
-// The characters and style sequences at the front, as one piece.
-fn styled_front(bytes: &[u8]) -> Piece
-    ensures { StyledRun bytes.now result }
-{
-    let mut at = 0;
-    let mut shown = 0;
-    while let Some(piece) = piece_at(bytes, at) {
-        at += piece.len;
-        shown += piece.shown;
-    }
-    Piece { len: at, shown }
-}
-
 // Copies the visible text of a good styled text for which there is room, and gives its length.
-fn copy_visible(bytes: &[u8], out: &mut [u8]) -> usize
+fn copy_visible(bytes: &[u8], out: &mut [u8]) -> Result<usize, Refusal>
     requires { VisibleFits bytes.now (length out.old) }
-    ensures { Copied bytes.now out.old out.new result }
+    ensures { GivesVisible bytes.now out.old out.new result }
 {
-    let mut at = 0;
-    let mut shown = 0;
-    while let Some(piece) = piece_at(bytes, at) {
-        let end = shown + piece.shown;
-        out[shown..end].copy_from_slice(&bytes[at..at + piece.shown]);
-        at += piece.len;
-        shown = end;
+    let mut filled = 0;
+    for shown in Pieces(bytes) {
+        let shown = shown?;
+        let end = filled + shown.len();
+        out[filled..end].copy_from_slice(shown);
+        filled = end;
     }
-    shown
+    Ok(filled)
 }
 
-// The character or the style sequence that begins at an index.
-fn piece_at(bytes: &[u8], at: usize) -> Option<Piece>
-    ensures { NextPiece (drop at bytes.now) result }
-{
-    if at < bytes.len() && bytes[at] == ESC {
-        let len = style_at(bytes, at)?;
-        return Some(Piece { len, shown: 0 });
-    }
-    let found = good_char_at(bytes, at)?;
-    Some(Piece {
-        len: found.len,
-        shown: found.len,
-    })
-}
+// What each character and each style sequence of a styled text shows; last a refusal, where they end before the text does.
+#[derive(Drop)]
+struct Pieces<'a>(&'a [u8]);
 
-// The length of the style sequence that begins with the ESC at an index.
-fn style_at(bytes: &[u8], at: usize) -> Option<usize>
-    requires { (at < length bytes.now) × (slice_index bytes.now at ≡ 27) }
-    ensures { StyleFront (drop at bytes.now) result }
-{
-    if bytes.len() - at < 2 {
-        return None;
-    }
-    if bytes[at + 1] != b'[' {
-        return None;
-    }
-    let end = plain_end(bytes, at + 2);
-    if end < bytes.len() && bytes[end] == b'm' {
-        Some(end + 1 - at)
-    } else {
-        None
+impl<'a> Iterator for Pieces<'a> {
+    ghost use Rattle.std.specs.Iterator.{at_most};
+    ghost use Rattle.text.specs.Pieces.{TakesPiece};
+
+    type Item = Result<&'a [u8], Refusal>;
+
+    ghost next_gives = { λ s r t. TakesPiece s.0.now r t.0.now };
+
+    ghost remaining = { λ s. at_most (length s.0.now) };
+
+    fn next(&mut self) -> Option<Result<&'a [u8], Refusal>> {
+        if self.0.is_empty() {
+            return None;
+        }
+        match split_piece(self.0) {
+            Some((shown, rest)) => {
+                self.0 = rest;
+                Some(Ok(shown))
+            }
+            None => {
+                self.0 = &[];
+                Some(Err(Refusal::Text))
+            }
+        }
     }
 }
 
-// Where the digits and semicolons end that begin at an index.
-fn plain_end(bytes: &[u8], from: usize) -> usize
-    requires { from ≤ length bytes.now }
-    ensures { PlainRun bytes.now from result }
+// What the first character or style sequence shows, and what stands behind it.
+fn split_piece(bytes: &[u8]) -> Option<(&[u8], &[u8])>
+    ensures { NextPiece bytes.now result }
 {
-    let mut end = from;
-    while end < bytes.len() && is_plain(bytes[end]) {
-        end += 1;
+    if let Some(rest) = past_style(bytes) {
+        return Some((&[], rest));
     }
-    end
+    let found = good_char(bytes)?;
+    Some(bytes.split_at(found.len))
+}
+
+// What stands behind the style sequence that begins the bytes.
+fn past_style(bytes: &[u8]) -> Option<&[u8]>
+    ensures { StyleFront bytes.now result }
+{
+    let parameters = bytes.strip_prefix(b"\x1b[")?;
+    let end = plain_end(parameters)?;
+    parameters[end..].strip_prefix(b"m")
+}
+
+// The index of the first byte that is no digit and no semicolon.
+fn plain_end(bytes: &[u8]) -> Option<usize>
+    ensures { result ≡ position (λ b. not (is_plain b)) bytes.now }
+{
+    bytes.iter().position(|byte| !is_plain(*byte))
 }
 
 // Whether a byte is a digit or a semicolon.
 fn is_plain(byte: u8) -> bool
     ensures { result ≡ is_plain byte }
 {
-    (b'0' <= byte && byte <= b'9') || byte == b';'
+    byte.is_ascii_digit() || byte == b';'
 }

@@ -1,21 +1,21 @@
 // Good texts: UTF-8 with no control but LF.
-ghost use Rattle.std.specs.Prelude.{◌≤◌, length, take, drop, IsUtf8, Decides};
+ghost use Rattle.std.specs.Prelude.{◌≤◌, length, take, IsUtf8, Decides};
 ghost use Rattle.std.specs.Str.{IsCharBoundary};
 ghost use Rattle.text.specs.Checks.{ChecksText, ChecksWithin};
 ghost use Rattle.text.specs.Decoding.{Within};
-ghost use Rattle.text.specs.Pieces.{GoodFront, GoodRun};
+ghost use Rattle.text.specs.Pieces.{GoodFront};
 
-use crate::decode::{Decoded, char_at, is_continuation, is_good};
+use crate::decode::{Decoded, first_char, is_continuation, is_good};
 use crate::refusal::Refusal;
+use std::str::from_utf8;
 
 // Accepts a good text, and refuses any other.
 pub fn check_text(bytes: &[u8]) -> Result<(), Refusal>
     ensures { ChecksText bytes.now result }
 {
-    if good_len(bytes) < bytes.len() {
-        Err(Refusal::Text)
-    } else {
-        Ok(())
+    match from_utf8(bytes) {
+        Ok(text) if text.chars().all(is_good) => Ok(()),
+        _ => Err(Refusal::Text),
     }
 }
 
@@ -35,33 +35,17 @@ pub fn is_boundary(bytes: &[u8], at: usize) -> bool
     ensures place { Decides result (IsCharBoundary bytes.now at) }
     ensures characters { IsUtf8 bytes.now → Decides result ((at ≤ length bytes.now) × IsUtf8 (take at bytes.now)) }
 {
-    if at < bytes.len() {
-        !is_continuation(bytes[at])
-    } else {
-        at == bytes.len()
+    match bytes.get(at) {
+        Some(&byte) => !is_continuation(byte),
+        None => at == bytes.len(),
     }
 }
 
-// How many bytes the good characters at the front take.
-fn good_len(bytes: &[u8]) -> usize
-    ensures { GoodRun bytes.now result }
+// The character that begins the bytes, if it is one that a text may hold.
+pub(crate) fn good_char(bytes: &[u8]) -> Option<Decoded>
+    ensures good { GoodFront bytes.now result }
+    ensures within { Within 0 (length bytes.now) result }
 {
-    let mut at = 0;
-    while let Some(found) = good_char_at(bytes, at) {
-        at += found.len;
-    }
-    at
-}
-
-// The character that begins at an index, if it is one that a text may hold.
-pub(crate) fn good_char_at(bytes: &[u8], at: usize) -> Option<Decoded>
-    ensures good { GoodFront (drop at bytes.now) result }
-    ensures within { Within at (length bytes.now) result }
-{
-    let found = char_at(bytes, at)?;
-    if is_good(found.code) {
-        Some(found)
-    } else {
-        None
-    }
+    let found = first_char(bytes)?;
+    is_good(found.code).then_some(found)
 }

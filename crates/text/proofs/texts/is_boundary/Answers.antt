@@ -1,10 +1,10 @@
 -- `is_boundary` meets its contract. Assumes nothing.
-use Rattle.std.proofs.Common.{arith}
-use Rattle.text.proofs.Places.{place-past, place-within}
+use Rattle.std.proofs.Common.{subst, Decides}
+use Rattle.text.specs.Decoding.{Follows}
+use Rattle.text.proofs.Places.{place-within}
 use Rattle.text.proofs.texts.is_boundary.Goals as goal
 
-pub returns-then-at-bytes : goal.returns-then-at-bytes
-returns-then-at-bytes c = place-within c.args.bytes.now c.args.at (omega arith) c.is_continuation.result c.is_continuation.ensures
-
-pub returns-else-at-bytes : goal.returns-else-at-bytes
-returns-else-at-bytes c = place-past c.args.bytes.now c.args.at (omega arith)
+pub returns-in-Some : goal.returns-in-Some
+returns-in-Some c =
+    let h = c.in-Some.ensures.lookup in
+    place-within c.args.bytes.now c.args.at h.3.0 c.is_continuation.result (subst (λ b. Decides c.is_continuation.result (Follows b)) (h.3.1 0) c.is_continuation.ensures)
