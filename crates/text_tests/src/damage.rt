@@ -55,41 +55,20 @@ fn damage_is_found_at_the_end(rt: HostRuntime) {
 // One byte: LF and the 95 characters from U+0020 to U+007E are texts, and the 128 bytes of ASCII are characters.
 #[test]
 fn all_strings_of_one_byte(rt: HostRuntime) {
-    let mut texts = 0u32;
-    let mut characters = 0u32;
-    for byte in 0..256u32 {
-        let bytes = [byte as u8];
-        if check_text(&bytes).is_ok() {
-            texts = texts.wrapping_add(1);
-        }
-        if char_at(&bytes, 0).is_some() {
-            characters = characters.wrapping_add(1);
-        }
-    }
-    assert_eq!(rt; texts, 96);
-    assert_eq!(rt; characters, 128);
+    let texts = (0..=u8::MAX).filter(|byte| check_text(&[*byte]).is_ok());
+    let characters = (0..=u8::MAX).filter(|byte| char_at(&[*byte], 0).is_some());
+    assert_eq!(rt; texts.count(), 96);
+    assert_eq!(rt; characters.count(), 128);
 }
 
 // Two bytes: two of the 96 texts of one byte, or one of the 2,048 - 160 characters from U+00A0 to U+07FF: 9,216 + 1,888 texts, also as styled texts, since a
 // style sequence has three bytes. A character at the front: 128 ASCII bytes before any byte, or one of the 2,048 - 128 characters of two bytes.
 #[test]
 fn all_strings_of_two_bytes(rt: HostRuntime) {
-    let mut texts = 0u32;
-    let mut styled = 0u32;
-    let mut characters = 0u32;
-    for pair in 0..65536u32 {
-        let bytes = [(pair / 256) as u8, (pair % 256) as u8];
-        if check_text(&bytes).is_ok() {
-            texts = texts.wrapping_add(1);
-        }
-        if check_styled(&bytes).is_ok() {
-            styled = styled.wrapping_add(1);
-        }
-        if char_at(&bytes, 0).is_some() {
-            characters = characters.wrapping_add(1);
-        }
-    }
-    assert_eq!(rt; texts, 11_104);
-    assert_eq!(rt; styled, 11_104);
-    assert_eq!(rt; characters, 34_688);
+    let texts = (0..=u16::MAX).filter(|pair| check_text(&pair.to_be_bytes()).is_ok());
+    let styled = (0..=u16::MAX).filter(|pair| check_styled(&pair.to_be_bytes()).is_ok());
+    let characters = (0..=u16::MAX).filter(|pair| char_at(&pair.to_be_bytes(), 0).is_some());
+    assert_eq!(rt; texts.count(), 11_104);
+    assert_eq!(rt; styled.count(), 11_104);
+    assert_eq!(rt; characters.count(), 34_688);
 }
