@@ -7,14 +7,6 @@ fn holds(buffer: &LineBuffer, front: &[u8], rest: &[u8]) -> bool {
     buffer.front() == front && buffer.rest() == rest && buffer.pos() == front.len()
 }
 
-// Whether a change was refused by a certain rule.
-fn refused(res: Result<(), Refusal>, number: u8) -> bool {
-    match res {
-        Ok(_) => false,
-        Err(refusal) => refusal.number() == number,
-    }
-}
-
 // A line is taken with its position, and a character goes in before the position, as often as told.
 #[test]
 fn changes(rt: HostRuntime) {
@@ -35,16 +27,19 @@ fn changes(rt: HostRuntime) {
 fn refusals(rt: HostRuntime) {
     let mut buffer = LineBuffer::new();
     assert!(rt; buffer.update(b"\xc3\xa9", 2).is_ok());
-    assert!(rt; refused(buffer.update(b"a\x1b", 9), 3));
-    assert!(rt; refused(buffer.update(b"\xc3", 0), 3));
-    assert!(rt; refused(buffer.update(&[b'a'; MAX_LINE + 1], 9999), 4));
-    assert!(rt; refused(buffer.update(b"ab", 3), 5));
-    assert!(rt; refused(buffer.set_pos(1), 5));
-    assert!(rt; refused(buffer.set_pos(3), 5));
-    assert!(rt; refused(buffer.insert(b"", 1), 3));
-    assert!(rt; refused(buffer.insert(b"ab", 1), 3));
-    assert!(rt; refused(buffer.insert(b"\t", 0), 3));
-    assert!(rt; refused(buffer.insert(b"a", 4095), 4));
+    assert_eq!(rt; buffer.update(b"a\x1b", 9), Err(Refusal::Text));
+    assert_eq!(rt; buffer.update(b"\xc3", 0), Err(Refusal::Text));
+    assert_eq!(rt;
+        buffer.update(&[b'a'; MAX_LINE + 1], 9999),
+        Err(Refusal::Long)
+    );
+    assert_eq!(rt; buffer.update(b"ab", 3), Err(Refusal::Place));
+    assert_eq!(rt; buffer.set_pos(1), Err(Refusal::Place));
+    assert_eq!(rt; buffer.set_pos(3), Err(Refusal::Place));
+    assert_eq!(rt; buffer.insert(b"", 1), Err(Refusal::Text));
+    assert_eq!(rt; buffer.insert(b"ab", 1), Err(Refusal::Text));
+    assert_eq!(rt; buffer.insert(b"\t", 0), Err(Refusal::Text));
+    assert_eq!(rt; buffer.insert(b"a", 4095), Err(Refusal::Long));
     assert!(rt; holds(&buffer, b"\xc3\xa9", b""));
 }
 
@@ -53,17 +48,23 @@ fn refusals(rt: HostRuntime) {
 fn checks(rt: HostRuntime) {
     assert!(rt; LineBuffer::check_update(b"caf\xc3\xa9", 5).is_ok());
     assert!(rt; LineBuffer::check_update(&[b'a'; MAX_LINE], MAX_LINE).is_ok());
-    assert!(rt; refused(LineBuffer::check_update(b"a\x1b", 9), 3));
-    assert!(rt; refused(LineBuffer::check_update(&[b'a'; MAX_LINE + 1], 9999), 4));
-    assert!(rt; refused(LineBuffer::check_update(b"caf\xc3\xa9", 4), 5));
+    assert_eq!(rt; LineBuffer::check_update(b"a\x1b", 9), Err(Refusal::Text));
+    assert_eq!(rt;
+        LineBuffer::check_update(&[b'a'; MAX_LINE + 1], 9999),
+        Err(Refusal::Long)
+    );
+    assert_eq!(rt;
+        LineBuffer::check_update(b"caf\xc3\xa9", 4),
+        Err(Refusal::Place)
+    );
     let mut buffer = LineBuffer::new();
     assert!(rt; buffer.update(b"caf\xc3\xa9", 3).is_ok());
     assert!(rt; buffer.check_pos(5).is_ok());
-    assert!(rt; refused(buffer.check_pos(4), 5));
-    assert!(rt; refused(buffer.check_pos(6), 5));
+    assert_eq!(rt; buffer.check_pos(4), Err(Refusal::Place));
+    assert_eq!(rt; buffer.check_pos(6), Err(Refusal::Place));
     assert!(rt; buffer.check_insert(b"\xc3\xa9", 2045).is_ok());
-    assert!(rt; refused(buffer.check_insert(b"\xc3\xa9", 2046), 4));
-    assert!(rt; refused(buffer.check_insert(b"ab", 9999), 3));
+    assert_eq!(rt; buffer.check_insert(b"\xc3\xa9", 2046), Err(Refusal::Long));
+    assert_eq!(rt; buffer.check_insert(b"ab", 9999), Err(Refusal::Text));
     assert!(rt; holds(&buffer, b"caf", b"\xc3\xa9"));
 }
 
@@ -83,7 +84,7 @@ fn clear(rt: HostRuntime) {
 fn full(rt: HostRuntime) {
     let mut buffer = LineBuffer::new();
     assert!(rt; buffer.update(&[b'a'; MAX_LINE], MAX_LINE).is_ok());
-    assert!(rt; refused(buffer.insert(b"b", 1), 4));
+    assert_eq!(rt; buffer.insert(b"b", 1), Err(Refusal::Long));
     assert!(rt; buffer.update(b"", 0).is_ok());
     assert!(rt; buffer.insert(b"a", 4096).is_ok());
     assert!(rt; holds(&buffer, &[b'a'; MAX_LINE], b""));

@@ -7,18 +7,7 @@ use text::refusal::Refusal;
 
 // Whether there is a certain note.
 fn has(note: &Note, expected: &[u8]) -> bool {
-    match note.get() {
-        Some(text) => text == expected,
-        None => false,
-    }
-}
-
-// Whether a text was refused by a certain rule.
-fn refused(res: Result<(), Refusal>, number: u8) -> bool {
-    match res {
-        Ok(_) => false,
-        Err(refusal) => refusal.number() == number,
-    }
+    note.get().is_some_and(|text| text == expected)
 }
 
 // A note is none until it is set; a refused text leaves it as it was.
@@ -43,12 +32,12 @@ fn set_and_clear(rt: HostRuntime) {
 fn checks(rt: HostRuntime) {
     assert!(rt; Note::check(b"").is_ok());
     assert!(rt; Note::check(&[b'a'; MAX_NOTE]).is_ok());
-    assert!(rt; refused(Note::check(&[b'a'; MAX_NOTE + 1]), 4));
-    assert!(rt; refused(Note::check(&[7; MAX_NOTE + 1]), 3));
+    assert_eq!(rt; Note::check(&[b'a'; MAX_NOTE + 1]), Err(Refusal::Long));
+    assert_eq!(rt; Note::check(&[7; MAX_NOTE + 1]), Err(Refusal::Text));
     assert!(rt; check_notice(b"on air\n").is_ok());
     assert!(rt; check_notice(&[b'a'; MAX_NOTICE]).is_ok());
-    assert!(rt; refused(check_notice(&[b'a'; MAX_NOTICE + 1]), 4));
-    assert!(rt; refused(check_notice(b"\xc3"), 3));
+    assert_eq!(rt; check_notice(&[b'a'; MAX_NOTICE + 1]), Err(Refusal::Long));
+    assert_eq!(rt; check_notice(b"\xc3"), Err(Refusal::Text));
 }
 
 // A copy holds what the other note holds, whatever it held before: longer, shorter or none.
