@@ -1,12 +1,12 @@
 // Updates that a terminal holds back until their end.
-ghost use Rattle.std.specs.Prelude.{◌≡◌, ◌+◌, ◌^◌, ◌<◌, [], ◌∷◌, if◌then◌else◌};
+ghost use Rattle.std.specs.Prelude.{◌^◌, ◌<◌, [], ◌∷◌, length, if◌then◌else◌};
 ghost use Rattle.page.specs.Law.{Written};
 ghost use Rattle.page.specs.Output.{framed};
-ghost use Rattle.render.specs.Numbering.{shifted_act};
+ghost use Rattle.render.specs.Numbering.{bytes_of};
 ghost use Rattle.render.specs.Updates.{Remembers, forgotten};
 ghost use Rattle.screen.specs.Output.{hold_bytes, release_bytes};
 
-use crate::writing::write_and_flush;
+use crate::writing::{write_and_flush, write_pieces};
 use page::outcome::BrokenAct;
 use terminal::terminal::Terminal;
 
@@ -56,28 +56,24 @@ pub fn write_synchronized<T: Terminal>(
 ) -> Result<(), BrokenAct>
     ensures { Written T.Terminal.answered terminal.old (framed holds (bytes.now ∷ [])) result terminal.new }
 {
-    let update = begin_synchronized_update(terminal, holds)?;
-    let before = usize::from(holds);
-    match write_and_flush(terminal, bytes) {
-        Ok(()) => {}
-        Err(broken) => {
-            abandon_synchronized_update(update);
-            return Err(shifted(before, broken));
-        }
-    }
-    match end_synchronized_update(update, terminal) {
-        Ok(()) => Ok(()),
-        Err(broken) => Err(shifted(before + 1, broken)),
-    }
+    write_framed(terminal, &[bytes], holds)
 }
 
-// A broken write's number, with so many writes before it.
-pub(crate) fn shifted(before: usize, broken: BrokenAct) -> BrokenAct
-    requires { before + broken.number < 2 ^ 64 }
-    ensures { result ≡ shifted_act before broken }
+// Writes some pieces, in an update of their own on a terminal that holds updates.
+pub(crate) fn write_framed<T: Terminal>(
+    terminal: &mut T,
+    pieces: &[&[u8]],
+    holds: bool,
+) -> Result<(), BrokenAct>
+    requires { length pieces.now < 2 ^ 32 }
+    ensures { Written T.Terminal.answered terminal.old (framed holds (bytes_of pieces.now)) result terminal.new }
 {
-    BrokenAct {
-        number: before + broken.number,
-        write: broken.write,
+    let update = begin_synchronized_update(terminal, holds)?;
+    let before = usize::from(holds);
+    if let Err(broken) = write_pieces(terminal, pieces, before) {
+        abandon_synchronized_update(update);
+        return Err(broken);
     }
+    let number = before + pieces.len();
+    end_synchronized_update(update, terminal).map_err(|broken| BrokenAct { number, ..broken })
 }

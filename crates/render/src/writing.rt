@@ -1,7 +1,7 @@
 // Writes of one piece.
-ghost use Rattle.std.specs.Prelude.{[], ◌∷◌};
+ghost use Rattle.std.specs.Prelude.{◌+◌, ◌^◌, ◌<◌, [], ◌∷◌, length};
 ghost use Rattle.page.specs.Law.{Written};
-ghost use Rattle.render.specs.Numbering.{Follows};
+ghost use Rattle.render.specs.Numbering.{FollowAll, Follows, bytes_of};
 ghost use Rattle.screen.specs.Output.{clear_bytes};
 
 use page::outcome::BrokenAct;
@@ -12,10 +12,7 @@ use terminal::writing::write_all;
 pub fn write_and_flush<T: Terminal>(terminal: &mut T, bytes: &[u8]) -> Result<(), BrokenAct>
     ensures { Written T.Terminal.answered terminal.old (bytes.now ∷ []) result terminal.new }
 {
-    match write_all(terminal, bytes) {
-        Ok(()) => Ok(()),
-        Err(write) => Err(BrokenAct { number: 0, write }),
-    }
+    write_next(terminal, bytes, 0)
 }
 
 // Writes all of some bytes, as the write of an act with so many before it.
@@ -26,13 +23,25 @@ pub fn write_next<T: Terminal>(
 ) -> Result<(), BrokenAct>
     ensures { Follows T.Terminal.answered before terminal.old bytes.now result terminal.new }
 {
-    match write_all(terminal, bytes) {
-        Ok(()) => Ok(()),
-        Err(write) => Err(BrokenAct {
-            number: before,
-            write,
-        }),
+    write_all(terminal, bytes).map_err(|write| BrokenAct {
+        number: before,
+        write,
+    })
+}
+
+// Writes some pieces, as the writes of an act with so many before them.
+pub(crate) fn write_pieces<T: Terminal>(
+    terminal: &mut T,
+    pieces: &[&[u8]],
+    before: usize,
+) -> Result<(), BrokenAct>
+    requires { before + length pieces.now < 2 ^ 64 }
+    ensures { FollowAll T.Terminal.answered before terminal.old (bytes_of pieces.now) result terminal.new }
+{
+    for (number, piece) in pieces.iter().enumerate() {
+        write_next(terminal, piece, before + number)?;
     }
+    Ok(())
 }
 
 // Blanks the window and puts the cursor at its first place.
