@@ -1,29 +1,14 @@
--- What always holds of a renderer's buffer, and what a push leaves.
-use Rattle.std.proofs.Common.{◌≡◌, ℕ, ◌+◌, ◌-◌, ◌≤◌, List, ◌++◌, length, take, drop, ap, ◌∙◌, append_assoc, arith, length-append}
-use borrow.Rule.Slice.PartMut.{put_mid}
-use Rattle.render.specs.Composing.{composed}
-use Rattle.render.specs.declared.renderer.PosixRenderer.{PosixRenderer}
-use Rattle.std.proofs.lemmas.List.{length-drop, length-take-le}
-use Rattle.std.proofs.lemmas.Slice.{take-put_mid}
+-- One push behind the other.
+use Rattle.buffer.specs.Contents.{Becomes, contents}
+use Rattle.buffer.specs.declared.buffer.Buffer.{Buffer}
+use Rattle.buffer.specs.declared.buffer.Full.{Full}
+use Rattle.std.proofs.Common.{◌≡◌, ℕ, ◌+◌, List, ◌++◌, length, Ok, Err, Result, ap, ◌∙◌, append_assoc, length-append}
 
-pub composed-length : (r : PosixRenderer) → length (composed r) ≡ r.len
-composed-length r = length-take-le r.len r.buffer (omega (arith, r.whole, r.within))
+-- bytes for which there was room
+pub grown : {N : ℕ} (bytes : List ℕ) (before after : Buffer N) (r : Result Unit Full) (u : Unit) → r ≡ Ok u → Becomes bytes before r after → contents after ≡ bytes
+grown bytes before after (Ok x) u e h = h.1
+grown bytes before after (Err x) u e h = absurd (cc)
 
--- bytes copied to a part of a table
-module _ (table copied bytes : List ℕ) (at : ℕ) (same : copied ≡ bytes) (room : at + length bytes ≤ length table) where
-  pub put_front : take (at + length bytes) (put_mid at (at + length bytes - at) table copied) ≡ take at table ++ bytes
-  put_front =
-      let long = ap length same in
-      take-put_mid at _ table copied (at + length bytes) (omega arith) (omega arith) ∙ ap (λ x. take at table ++ x) same
-
-  pub put-length : length (put_mid at (at + length bytes - at) table copied) ≡ length table
-  put-length =
-      let k = at + length bytes - at in
-      let long = ap length same in
-      let back : length (drop k (drop at table)) ≡ (length table - at) - k = length-drop k (drop at table) ∙ ap (λ n. n - k) (length-drop at table) in
-      length-append (take at table) (copied ++ drop k (drop at table)) ∙ omega (arith, length-append copied (drop k (drop at table)), length-take-le at table (omega arith))
-
--- one push behind the other
 pub push-length : (now before bytes : List ℕ) → now ≡ before ++ bytes → length now ≡ length before + length bytes
 push-length now before bytes e = ap length e ∙ length-append before bytes
 

@@ -10,7 +10,9 @@ use Rattle.lines.specs.declared.line_buffer.LineBuffer.{LineBuffer}
 use Rattle.lines.specs.declared.note.Note.{Note}
 use Rattle.lines.specs.declared.prompt.Prompt.{Prompt}
 use Rattle.render.proofs.Buffers.{push-length, push-three}
-use Rattle.render.specs.Drawing.{Appends, AppendsTexts, Coloured, NoteLit, StyledTexts, Texts, Uncoloured, note_bytes, texts_of}
+use Rattle.render.specs.Drawing.{Appends, AppendsTexts, Coloured, NoteLit, Uncoloured, block_texts, note_bytes, texts_of}
+use Rattle.render.specs.declared.block.Block.{Block}
+use Rattle.highlight.specs.declared.highlight.Highlighter.{Ghosts}
 
 pub note-short : (n : Note) → length (note_bytes (note_of n)) ≤ 1024
 note-short n = by (note_of n) refl
@@ -29,8 +31,9 @@ plain-appends p b n before after e = record {
 }
 
 -- one answer behind the other
-module _ (lights : List ℕ → ℕ → List ℕ → Type 0) (lights_prompt : List ℕ → Bool → List ℕ → Type 0) (lights_hint : List ℕ → List ℕ → Type 0) (p : Prompt) (b : LineBuffer) (n : Note) where
-  pub lit-appends : (before one two end : List ℕ) → Appends (lights_prompt (styled_of p) true) 768 before one → Appends (lights (line_of b) b.pos) 4352 one two → Appends (NoteLit lights_hint (note_of n)) 1280 two end → AppendsTexts (Coloured lights lights_prompt lights_hint (texts_of p b n)) 6400 before end
+module _ {H : Type 0} (asked : Ghosts H) (h : H) (b : Block) where
+  pub lit-appends : (before one two end : List ℕ) → Appends (asked.lights_prompt h (styled_of b.prompt.now) true) 768 before one → Appends (asked.lights h (line_of b.line.now) b.line.now.pos) 4352 one two → Appends (NoteLit (asked.lights_hint h) (note_of b.note.now)) 1280 two end
+      → AppendsTexts (Coloured asked h (block_texts b)) 6400 before end
   lit-appends before one two end x y z = record {
     styles = record { prompt = x.answer; line = y.answer; note = z.answer };
     styled = record { prompt = x.allowed; line = y.allowed; note = z.allowed };
@@ -44,11 +47,3 @@ appends-length allows limit before after a = omega (arith, push-length after bef
 -- a note that there is
 pub note-appends : {before after : List ℕ} (lights : List ℕ → List ℕ → Type 0) (n : Note) (t : List ℕ) (limit : ℕ) → Some t ≡ note_of n → Appends (lights t) limit before after → Appends (NoteLit lights (note_of n)) limit before after
 note-appends {before} {after} lights n t limit e a = subst (λ o. Appends (NoteLit lights o) limit before after) e a
-
--- with colours or without
-module _ (lights : List ℕ → ℕ → List ℕ → Type 0) (lights_prompt : List ℕ → Bool → List ℕ → Type 0) (lights_hint : List ℕ → List ℕ → Type 0) (x : Texts) (colours : Bool) where
-  pub coloured-appends : {before after : List ℕ} → colours ≡ true → AppendsTexts (Coloured lights lights_prompt lights_hint x) 6400 before after → AppendsTexts (StyledTexts lights lights_prompt lights_hint colours x) 6400 before after
-  coloured-appends {before} {after} e a = subst (λ b. AppendsTexts (StyledTexts lights lights_prompt lights_hint b x) 6400 before after) (sym e) a
-
-  pub uncoloured-appends : {before after : List ℕ} → colours ≡ false → AppendsTexts (Uncoloured x) 6400 before after → AppendsTexts (StyledTexts lights lights_prompt lights_hint colours x) 6400 before after
-  uncoloured-appends {before} {after} e a = subst (λ b. AppendsTexts (StyledTexts lights lights_prompt lights_hint b x) 6400 before after) (sym e) a

@@ -9,6 +9,10 @@ use Rattle.lines.specs.declared.note.Note.{Note}
 use Rattle.lines.specs.declared.prompt.Prompt.{Prompt}
 use Rattle.page.specs.Law.{Written}
 use Rattle.page.specs.Output.{framed}
+use Rattle.highlight.specs.declared.highlight.Highlighter.{Ghosts}
+use Rattle.render.specs.declared.block.Block.{Block}
+use Rattle.std.specs.Option.{option_map}
+use denote.Ref.{Bor}
 use Rattle.page.specs.declared.outcome.BrokenAct.{BrokenAct}
 use Rattle.screen.specs.Output.{closing, erase_bytes, to_column, up_by}
 use Rattle.terminal.specs.Answers.{WriteAnswer}
@@ -48,8 +52,15 @@ pub record Texts : Type 0 where
   pub pos : ℕ
   pub note : Option (List ℕ)
 
+-- what a reference points to, if there is one
+abbrev pub now_of : {X : Type 0} → Option (Bor X) → Option X
+now_of o = option_map (λ r. r.now) o
+
 abbrev pub texts_of : Prompt → LineBuffer → Note → Texts
 texts_of p b n = record { raw = raw_of p; styled = styled_of p; line = line_of b; pos = b.pos; note = note_of n }
+
+abbrev pub block_texts : Block → Texts
+block_texts b = texts_of b.prompt.now b.line.now b.note.now
 
 -- a note's bytes
 abbrev pub note_bytes : Option (List ℕ) → List ℕ
@@ -67,16 +78,17 @@ pub record Uncoloured (x : Texts) (s : Styles) : Type 0 where
   pub line : s.line ≡ x.line
   pub note : s.note ≡ note_bytes x.note
 
-module _ (lights : List ℕ → ℕ → List ℕ → Type 0) (lights_prompt : List ℕ → Bool → List ℕ → Type 0) (lights_hint : List ℕ → List ℕ → Type 0) where
+module _ {H : Type 0} (asked : Ghosts H) where
   -- the texts as a highlighter answers them
-  pub record Coloured (x : Texts) (s : Styles) : Type 0 where
-    pub prompt : lights_prompt x.styled true s.prompt
-    pub line : lights x.line x.pos s.line
-    pub note : NoteLit lights_hint x.note s.note
+  pub record Coloured (h : H) (x : Texts) (s : Styles) : Type 0 where
+    pub prompt : asked.lights_prompt h x.styled true s.prompt
+    pub line : asked.lights h x.line x.pos s.line
+    pub note : NoteLit (asked.lights_hint h) x.note s.note
 
-  -- with colours or without
-  abbrev pub StyledTexts : Bool → Texts → Styles → Type 0
-  StyledTexts colours x s = cond colours (Coloured x s) (Uncoloured x s)
+  -- with colours, as a highlighter answers them, or without
+  abbrev pub StyledTexts : Option H → Texts → Styles → Type 0
+  StyledTexts None x s = Uncoloured x s
+  StyledTexts (Some h) x s = Coloured h x s
 
 -- an allowed answer of at most so many bytes stands behind what was composed
 pub record Appends (allows : List ℕ → Type 0) (limit : ℕ) (before after : List ℕ) : Type 0 where

@@ -1,9 +1,10 @@
 // Bytes composed one behind the other.
 ghost use Rattle.std.specs.Prelude.{◌≡◌, ◌+◌, ◌≤◌, [], ◌++◌, length, decimal};
-ghost use Rattle.render.specs.Composing.{composed};
+ghost use Rattle.render.specs.Composing.{composed, some_move};
 ghost use Rattle.screen.specs.Output.{move_by};
 
-use crate::renderer::{MAX_BYTES, PosixRenderer};
+use crate::renderer::PosixRenderer;
+use buffer::buffer::Buffer;
 
 impl PosixRenderer {
     // Nothing is composed yet.
@@ -11,8 +12,7 @@ impl PosixRenderer {
         ensures { composed result ≡ [] }
     {
         PosixRenderer {
-            buffer: [0; MAX_BYTES],
-            len: 0,
+            buffer: Buffer::new(),
         }
     }
 
@@ -20,14 +20,14 @@ impl PosixRenderer {
     pub fn contents(&self) -> &[u8]
         ensures { result.now ≡ composed self.now }
     {
-        &self.buffer[0..self.len]
+        self.buffer.as_slice()
     }
 
     // Begins anew.
     pub(crate) fn clear(&mut self)
         ensures { composed self.new ≡ [] }
     {
-        self.len = 0;
+        self.buffer.clear();
     }
 
     // Puts bytes behind what is composed.
@@ -35,10 +35,7 @@ impl PosixRenderer {
         requires { length (composed self.old) + length bytes.now ≤ 8192 }
         ensures { composed self.new ≡ composed self.old ++ bytes.now }
     {
-        let at = self.len;
-        let end = at + bytes.len();
-        self.buffer[at..end].copy_from_slice(bytes);
-        self.len = end;
+        self.buffer.extend_from_slice(bytes).unwrap();
     }
 
     // Puts a number in decimal behind what is composed.
@@ -46,7 +43,8 @@ impl PosixRenderer {
         requires { length (composed self.old) + length (decimal n) ≤ 8192 }
         ensures { composed self.new ≡ composed self.old ++ decimal n }
     {
-        if n >= 10 {
+        let several = n >= 10;
+        if several {
             self.push_number(n / 10);
         }
         self.push(&[b'0' + (n % 10) as u8]);
@@ -60,5 +58,15 @@ impl PosixRenderer {
         self.push(b"\x1b[");
         self.push_number(n);
         self.push(&[final_byte]);
+    }
+
+    // The same, unless the number is 0.
+    pub(crate) fn push_some_move(&mut self, final_byte: u8, n: u16)
+        requires { length (composed self.old) + length (some_move final_byte n) ≤ 8192 }
+        ensures { composed self.new ≡ composed self.old ++ some_move final_byte n }
+    {
+        if n > 0 {
+            self.push_move(final_byte, n);
+        }
     }
 }

@@ -3,7 +3,7 @@ ghost use Rattle.std.specs.Prelude.{◌≡◌, ◌+◌, ◌*◌, ◌≤◌, [], 
 ghost use Rattle.page.specs.Law.{Written};
 ghost use Rattle.render.specs.Composing.{composed};
 ghost use Rattle.render.specs.Drawing.{erase_layout};
-ghost use Rattle.screen.specs.Output.{down_by, rows_up};
+ghost use Rattle.screen.specs.Output.{rows_up};
 
 use crate::renderer::PosixRenderer;
 use crate::writing::write_and_flush;
@@ -33,18 +33,8 @@ impl PosixRenderer {
     {
         let old_rows = layout.end().row;
         let current_row = layout.cursor().row;
-        self.push_down(old_rows - current_row);
+        self.push_some_move(b'B', old_rows - current_row);
         self.push_rows_up(old_rows);
-    }
-
-    // Puts a move down behind what is composed, unless it is by 0 rows.
-    fn push_down(&mut self, n: u16)
-        requires { length (composed self.old) + length (down_by n) ≤ 8192 }
-        ensures { composed self.new ≡ composed self.old ++ down_by n }
-    {
-        if n > 0 {
-            self.push_move(b'B', n);
-        }
     }
 
     // Puts behind what is composed: so many rows erased from below, and the row above them.
@@ -52,9 +42,9 @@ impl PosixRenderer {
         requires { length (composed self.old) + (n * 7 + 4) ≤ 8192 }
         ensures { composed self.new ≡ composed self.old ++ rows_up n }
     {
-        for _i in 0..n {
-            self.push(b"\r\x1b[K\x1b[A");
-        }
+        self.buffer
+            .extend_repeated(b"\r\x1b[K\x1b[A", n)
+            .unwrap();
         self.push(b"\r\x1b[K");
     }
 }

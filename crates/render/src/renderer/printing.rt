@@ -1,15 +1,13 @@
 // Notices printed above a block.
 ghost use Rattle.render.specs.Composing.{composed};
-ghost use Rattle.render.specs.Drawing.{StyledTexts, texts_of};
+ghost use Rattle.render.specs.Drawing.{StyledTexts, block_texts, now_of};
 ghost use Rattle.render.specs.Notices.{Printed};
 
+use crate::block::Block;
 use crate::notice::write_notice;
 use crate::renderer::PosixRenderer;
 use highlight::highlight::Highlighter;
 use layout::block::Layout;
-use lines::line_buffer::LineBuffer;
-use lines::note::Note;
-use lines::prompt::Prompt;
 use page::outcome::BrokenAct;
 use terminal::terminal::Terminal;
 
@@ -20,18 +18,14 @@ impl PosixRenderer {
         &mut self,
         terminal: &mut T,
         text: &[u8],
-        prompt: &Prompt,
-        line: &LineBuffer,
-        note: &Note,
+        block: &Block<'_>,
         old: &Layout,
-        new: &Layout,
-        colours: bool,
-        highlighter: &H,
+        highlighter: Option<&H>,
         holds: bool,
     ) -> Result<(), BrokenAct>
-        ensures { Printed T.Terminal.answered (StyledTexts (H.Highlighter.lights highlighter.now) (H.Highlighter.lights_prompt highlighter.now) (H.Highlighter.lights_hint highlighter.now) colours (texts_of prompt.now line.now note.now)) old.now new.now text.now holds terminal.old result terminal.new (composed self.new) }
+        ensures { Printed T.Terminal.answered (StyledTexts H.Highlighter (now_of highlighter.entry) (block_texts block.now)) old.now block.now.layout.now text.now holds terminal.old result terminal.new (composed self.new) }
     {
-        let erased = self.compose_line(prompt, line, note, Some(old), new, colours, highlighter);
+        let erased = self.compose_line(block, Some(old), highlighter);
         let bytes = self.contents();
         let erasing = &bytes[0..erased];
         let drawing = &bytes[erased..bytes.len()];

@@ -6,16 +6,14 @@ use Rattle.render.specs.Composing.{composed}
 use Rattle.render.proofs.renderer.PosixRenderer.push_lit_texts.Goals as goal
 
 pub push_lit_line-requires : goal.push_lit_line-requires
-push_lit_line-requires g c =
-    omega (arith, appends-length (g.H.Highlighter.lights_prompt c.args.highlighter.now (styled_of c.args.prompt.now) true) 768 (composed c.args.self.now) (composed c.push_lit_prompt.new.self) c.push_lit_prompt.ensures, c.requires)
+push_lit_line-requires g c = omega (arith, appends-length _ 768 (composed c.args.self.now) (composed c.push_lit_prompt.new.self) c.push_lit_prompt.ensures, c.requires)
 
 pub push_lit_note-requires : goal.push_lit_note-requires
 push_lit_note-requires g c =
-    omega (arith, appends-length (g.H.Highlighter.lights_prompt c.args.highlighter.now (styled_of c.args.prompt.now) true) 768 (composed c.args.self.now) (composed c.push_lit_prompt.new.self) c.push_lit_prompt.ensures, appends-length (g.H.Highlighter.lights c.args.highlighter.now (line_of c.args.line.now) c.args.line.now.pos) 4352 (composed c.push_lit_prompt.new.self) (composed c.push_lit_line.new.self) c.push_lit_line.ensures, c.requires)
+    omega (arith, appends-length _ 768 (composed c.args.self.now) (composed c.push_lit_prompt.new.self) c.push_lit_prompt.ensures, appends-length _ 4352 (composed c.push_lit_prompt.new.self) (composed c.push_lit_line.new.self) c.push_lit_line.ensures, c.requires)
 
 pub returns : goal.returns
 returns g c =
-    let h = c.args.highlighter.now in
-    lit-appends (g.H.Highlighter.lights h) (g.H.Highlighter.lights_prompt h) (g.H.Highlighter.lights_hint h) c.args.prompt.now c.args.line.now c.args.note.now
+    lit-appends g.H.Highlighter c.args.highlighter.now c.args.block.now
     (composed c.args.self.now) (composed c.push_lit_prompt.new.self) (composed c.push_lit_line.new.self) (composed c.push_lit_note.new.self)
     c.push_lit_prompt.ensures c.push_lit_line.ensures c.push_lit_note.ensures

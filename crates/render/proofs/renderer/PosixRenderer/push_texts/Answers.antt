@@ -11,23 +11,23 @@ use Rattle.render.specs.Drawing.{note_bytes}
 use Rattle.render.proofs.renderer.PosixRenderer.push_texts.Goals as goal
 
 pub push-requires : goal.push-requires
-push-requires c = omega (arith, ap length c.raw.ensures, raw-short c.args.prompt.now)
+push-requires c = omega (arith, ap length c.raw.ensures, raw-short c.args.block.now.prompt.now)
 
 pub push-requires-2 : goal.push-requires-2
 push-requires-2 c =
-    omega (arith, ap length c.raw.ensures, raw-short c.args.prompt.now, ap length c.line.ensures, line-short c.args.line.now, push-length (composed c.push.new.self) (composed c.args.self.now) c.raw.result.now c.push.ensures)
+    omega (arith, ap length c.raw.ensures, raw-short c.args.block.now.prompt.now, ap length c.line.ensures, line-short c.args.block.now.line.now, push-length (composed c.push.new.self) (composed c.args.self.now) c.raw.result.now c.push.ensures)
 
 pub push-requires-in-Some : goal.push-requires-in-Some
 push-requires-in-Some c =
-    omega (arith, ap length c.raw.ensures, raw-short c.args.prompt.now, ap length c.line.ensures, line-short c.args.line.now, push-length (composed c.push.new.self) (composed c.args.self.now) c.raw.result.now c.push.ensures, push-length (composed c.push-2.new.self) (composed c.push.new.self) c.line.result.now c.push-2.ensures, ap (λ o. length (note_bytes o)) c.in-Some.ensures, note-short c.args.note.now)
+    omega (arith, ap length c.raw.ensures, raw-short c.args.block.now.prompt.now, ap length c.line.ensures, line-short c.args.block.now.line.now, push-length (composed c.push.new.self) (composed c.args.self.now) c.raw.result.now c.push.ensures, push-length (composed c.push-2.new.self) (composed c.push.new.self) c.line.result.now c.push-2.ensures, ap (λ o. length (note_bytes o)) c.in-Some.ensures, note-short c.args.block.now.note.now)
 
 pub returns-in-Some : goal.returns-in-Some
 returns-in-Some c =
     let before = composed c.args.self.now in
     let one = composed c.push.new.self in
     let two = composed c.push-2.new.self in
-    plain-appends c.args.prompt.now c.args.line.now c.args.note.now before (composed c.push-in-Some.new.self)
-    (push-three before one two (composed c.push-in-Some.new.self) (raw_of c.args.prompt.now) (line_of c.args.line.now) (note_bytes (note_of c.args.note.now))
+    plain-appends c.args.block.now.prompt.now c.args.block.now.line.now c.args.block.now.note.now before (composed c.push-in-Some.new.self)
+    (push-three before one two (composed c.push-in-Some.new.self) (raw_of c.args.block.now.prompt.now) (line_of c.args.block.now.line.now) (note_bytes (note_of c.args.block.now.note.now))
     (c.push.ensures ∙ ap (λ x. before ++ x) c.raw.ensures) (c.push-2.ensures ∙ ap (λ x. one ++ x) c.line.ensures) (c.push-in-Some.ensures ∙ ap (λ o. two ++ note_bytes o) c.in-Some.ensures))
 
 pub returns-in_default : goal.returns-in_default
@@ -35,6 +35,6 @@ returns-in_default c =
     let before = composed c.args.self.now in
     let one = composed c.push.new.self in
     let two = composed c.push-2.new.self in
-    plain-appends c.args.prompt.now c.args.line.now c.args.note.now before two
-    (push-three before one two two (raw_of c.args.prompt.now) (line_of c.args.line.now) (note_bytes (note_of c.args.note.now))
+    plain-appends c.args.block.now.prompt.now c.args.block.now.line.now c.args.block.now.note.now before two
+    (push-three before one two two (raw_of c.args.block.now.prompt.now) (line_of c.args.block.now.line.now) (note_bytes (note_of c.args.block.now.note.now))
     (c.push.ensures ∙ ap (λ x. before ++ x) c.raw.ensures) (c.push-2.ensures ∙ ap (λ x. one ++ x) c.line.ensures) (sym (append-nil two) ∙ ap (λ o. two ++ note_bytes o) c.in_default.ensures))
