@@ -3,8 +3,8 @@ use Rattle.std.proofs.Common.{◌≡◌, ℕ, ◌<◌, ◌≤◌, Bool, true, fa
 use lib.Utf8.{encode, encodes, low_scalar, scalar, scalars}
 use Rattle.layout.specs.declared.measure.EscapeSequence.{EscapeSequence}
 use Rattle.layout.specs.declared.measure.EscapeSequence.TheVariants.{Begun, Inside, Outside}
-use Rattle.page.proofs.Spelt.{good-cut, spells-decodes, styled-decodes}
-use Rattle.page.specs.Computed.{good_bytes, good_character, good_characters, same_characters, shown_by, shown_from, shows_as, spelled_out}
+use Rattle.page.proofs.Spelt.{good-cut, styled-decodes}
+use Rattle.page.specs.Computed.{same_characters, shown_by, shown_from, shows_as}
 use Rattle.page.specs.Rules.{AtBoundary}
 use Rattle.std.proofs.lemmas.Slice.Eq.{bytes_eq-Decides}
 use Rattle.std.proofs.lemmas.Bool.{and_from, and_parts, cond-false, cond-true, eqb-true, false≢true, ne_eqb, not_from_false, not-true}
@@ -13,29 +13,10 @@ use Rattle.std.proofs.lemmas.Bool.Decides.{Decides-and, Decides-eqb, Decides-lik
 use Rattle.std.specs.Option.{option_map}
 use Rattle.std.specs.Str.{chars}
 use Rattle.text.proofs.Spelling.{good-not-esc, good-text-utf8}
+use Rattle.text.specs.Tests.{good_bytes, good_character, spelled_out}
+pub use Rattle.text.proofs.Testing.{good-bytes, good-bytes-decides, good-character, good-characters, good-text, spells-decodes}
 use Rattle.text.specs.Characters.{AllGood, Good, is_control}
 use Rattle.text.specs.Texts.{GoodText, Styled, dyes, ends, is_plain, plain, shows, style}
-
-good-character : (c : ℕ) → Decides (good_character c) (Good c)
-good-character c =
-    Decides-and (scalar c) (eqb c 10 || not (is_control c)) ((λ e. e), (λ e. e))
-    (Decides-or (eqb c 10) (not (is_control c)) (Decides-eqb c 10) (not-true (is_control c), not_from_false (is_control c)))
-
-good-characters : (cs : List ℕ) → Decides (good_characters cs) (AllGood cs)
-good-characters [] = ((λ _. tt), (λ _. refl))
-good-characters (c ∷ cs) = Decides-and (good_character c) (good_characters cs) (good-character c) (good-characters cs)
-
-pub good-bytes-decides : (bs : List ℕ) → Decides (good_bytes bs) (GoodText bs)
-unfolding good_bytes
-good-bytes-decides bs =
-    Decides-like (good_characters (chars bs) && spelled_out bs) (λ h. (chars bs, h)) (spells-decodes bs)
-    (Decides-and (good_characters (chars bs)) (spelled_out bs) (good-characters (chars bs)) (bytes_eq-Decides (encodes (chars bs)) bs))
-
-pub good-text : (bs : List ℕ) → good_bytes bs ≡ true → GoodText bs
-good-text bs = (good-bytes-decides bs).0
-
-pub good-bytes : (bs : List ℕ) → GoodText bs → good_bytes bs ≡ true
-good-bytes bs = (good-bytes-decides bs).1
 
 -- digits and semicolons are ASCII, and spell themselves
 plain-low : (c : ℕ) → is_plain c ≡ true → c < 128

@@ -9,15 +9,11 @@ use Rattle.std.proofs.lemmas.Str.{IsCharBoundary-from_take, chars-append, chars-
 use Rattle.std.specs.Str.{chars}
 use Rattle.text.proofs.Spelling.{good-scalars, good-text-append, good-text-cut, good-text-utf8}
 use Rattle.text.proofs.Styling.{spells-styled}
+pub use Rattle.text.proofs.Testing.{spells-decodes}
 use Rattle.text.specs.Characters.{AllGood}
 use Rattle.text.specs.Texts.{GoodText, Spells, Styled}
 
 -- a good text's characters
-pub spells-decodes : (bs : List ℕ) → GoodText bs → Spells bs (chars bs)
-spells-decodes bs (cs, (g, e)) =
-    let is : chars bs ≡ cs = ap chars (sym e) ∙ chars-encodes cs (good-scalars cs g) in
-    (subst AllGood (sym is) g, ap encodes is ∙ e)
-
 pub good-decodes : (bs : List ℕ) → GoodText bs → AllGood (chars bs)
 good-decodes bs g = (spells-decodes bs g).0
 

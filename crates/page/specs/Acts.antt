@@ -2,6 +2,7 @@
 use Rattle.std.specs.Prelude.{ℕ, zero, suc, ◌+◌, ◌-◌, ◌*◌, max, Bool, true, false, cond, ◌&&◌, ◌||◌, List, [], ◌++◌, length, take, drop, Some, None, Option, ◌==◌, nat_lt, slice_index}
 use Rattle.page.specs.Page.{Page, cursor_col, cursor_row, end_row}
 use Rattle.screen.specs.Screen.{Geometry, Paper, Screen, block, over, place_row}
+use Rattle.std.specs.List.{repeat}
 use Rattle.std.specs.Str.{chars}
 
 pub data Act : Type 0 where
@@ -27,8 +28,7 @@ pub record Replies : Type 0 where
 
 -- a text n times
 abbrev pub times : ℕ → List ℕ → List ℕ
-times zero t = []
-times (suc n) t = t ++ times n t
+times n t = repeat n t
 
 -- the line after an act
 abbrev pub line_after : Act → Page → List ℕ

@@ -1,29 +1,11 @@
--- Tests of texts that compute: good texts, and what a styled text shows. Assumes nothing.
-use Rattle.std.specs.Prelude.{ℕ, Bool, true, false, cond, not, ◌&&◌, ◌||◌, List, [], ◌∷◌, Some, None, Option, ◌==◌}
-use Rattle.std.proofs.Math.Utf8.{encodes, scalar}
+-- Tests of texts that compute: what a styled text shows. Assumes nothing.
+use Rattle.std.specs.Prelude.{ℕ, Bool, false, cond, List, [], ◌∷◌, Some, None, Option, ◌==◌}
 use Rattle.layout.specs.declared.measure.EscapeSequence.{EscapeSequence}
 use Rattle.layout.specs.declared.measure.EscapeSequence.TheVariants.{Begun, Inside, Outside}
 use Rattle.std.specs.Option.{option_map}
 use Rattle.std.specs.Str.{chars, bytes_eq}
-use Rattle.text.specs.Characters.{is_control}
 use Rattle.text.specs.Texts.{is_plain}
-
--- whether a text may hold a character
-abbrev pub good_character : ℕ → Bool
-good_character c = scalar c && (c == 10 || not (is_control c))
-
--- each of some characters
-abbrev pub good_characters : List ℕ → Bool
-good_characters [] = true
-good_characters (c ∷ cs) = good_character c && good_characters cs
-
--- whether bytes are what their characters are in UTF-8
-abbrev pub spelled_out : List ℕ → Bool
-spelled_out bs = bytes_eq (encodes (chars bs)) bs
-
--- whether bytes are a good text
-unfoldable pub good_bytes : List ℕ → Bool
-good_bytes bs = good_characters (chars bs) && spelled_out bs
+pub use Rattle.text.specs.Tests.{good_bytes, good_character, spelled_out}
 
 -- what the characters of a styled text show from a point on, by how far a style sequence has come there
 abbrev pub shown_from : EscapeSequence → List ℕ → Option (List ℕ)

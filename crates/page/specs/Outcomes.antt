@@ -4,14 +4,14 @@ use Rattle.page.specs.declared.outcome.BrokenAct.{BrokenAct}
 use Rattle.page.specs.declared.outcome.Rejection.{Rejection}
 use Rattle.page.specs.declared.outcome.Rejection.TheVariants.{Broke, Refused}
 use Rattle.terminal.specs.Writing.{fault_number, fault_word}
-use Rattle.text.specs.Refusals.{refusal_number, refusal_word}
+use Rattle.text.specs.Refusals.{refusal_text}
 
 -- the fault's number and word, the write's number, and how many of its bytes were taken
 abbrev pub broken_text : BrokenAct → List ℕ
 broken_text b =
     decimal (fault_number b.write.fault) ++ (codes " " ++ (fault_word b.write.fault ++ (codes " write " ++ (decimal b.number ++ (codes " taken " ++ decimal b.write.taken)))))
 
--- the refusal's number and word, or how the act broke
+-- the refusal, or how the act broke
 abbrev pub rejection_text : Rejection → List ℕ
-rejection_text (Refused r) = decimal (refusal_number r) ++ (codes " " ++ refusal_word r)
+rejection_text (Refused r) = refusal_text r
 rejection_text (Broke b) = broken_text b

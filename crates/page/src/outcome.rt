@@ -56,11 +56,7 @@ impl fmt::Display for Rejection {
 
     fn fmt<W: fmt::Write>(&self, f: &mut fmt::Formatter<W>) -> fmt::Result {
         match self {
-            Rejection::Refused(refusal) => {
-                let code = refusal.number();
-                let word = refusal.word();
-                write!(f, "{code} {word}")
-            }
+            Rejection::Refused(refusal) => write!(f, "{refusal}"),
             Rejection::Broke(broken) => write!(f, "{broken}"),
         }
     }
