@@ -6,6 +6,7 @@ use Rattle.page.specs.Law.{Written, broke, done, next}
 use Rattle.page.specs.Output.{framed}
 use Rattle.page.specs.declared.outcome.BrokenAct.{BrokenAct}
 use Rattle.render.proofs.Writes.{written-append, written-front}
+use Rattle.render.proofs.Drawings.{drawing-part, erasing-part}
 use Rattle.render.specs.Drawing.{Composes, Styles, draw_layout, erase_layout}
 use Rattle.render.specs.Notices.{Printed, closing_line, notice_writes}
 use Rattle.render.specs.Numbering.{Follows}
@@ -22,20 +23,12 @@ module _ {allows : Styles → Type 0} (old new : Layout) (n : ℕ) (buffer bytes
   pub erased-within : n ≤ length bytes
   erased-within = omega (arith, c.erased, ap length two-parts, length-append (erase_layout old) (draw_layout c.styles new))
 
-  pub erasing-part : take (n - 0) bytes ≡ erase_layout old
-  erasing-part = ap (λ (x : List ℕ). take (n - 0) x) two-parts ∙ take_at (erase_layout old) (draw_layout c.styles new) (n - 0) (omega (arith, c.erased))
-
-  pub drawing-part : take (length bytes - n) (drop n bytes) ≡ draw_layout c.styles new
-  drawing-part = take_rest bytes n ∙ ap (λ (x : List ℕ). drop n x) two-parts ∙ drop_at (erase_layout old) (draw_layout c.styles new) n (sym c.erased)
-
   -- a notice written between them
-  pub printed : {T : Type 0} {answered : T → List ℕ → WriteAnswer → T → Type 0} (text : List ℕ) (holds : Bool) (s t : T) (r : Result Unit BrokenAct)
-      → Written answered s (framed holds (notice_writes (take (n - 0) bytes) text (take (length bytes - n) (drop n bytes)))) r t
-      → Printed answered allows old new text holds s r t buffer
-  printed {answered = answered} text holds s t r w = record {
+  pub printed : {T : Type 0} {answered : T → List ℕ → WriteAnswer → T → Type 0} (text : List ℕ) (holds : Bool) (s t : T) (r : Result Unit BrokenAct) (erasing drawing : List ℕ) → erasing ≡ take n bytes → drawing ≡ drop n bytes
+      → Written answered s (framed holds (notice_writes erasing text drawing)) r t → Printed answered allows old new text holds s r t buffer
+  printed {answered = answered} text holds s t r erasing drawing front back w = record {
     styles = c.styles;
     styled = c.styled;
     bytes = c.bytes;
-    written = subst (λ (x : List ℕ). Written answered s (framed holds (notice_writes (erase_layout old) text x)) r t) drawing-part
-        (subst (λ (x : List ℕ). Written answered s (framed holds (notice_writes x text (take (length bytes - n) (drop n bytes)))) r t) erasing-part w);
+    written = subst (λ (x : List ℕ). Written answered s (framed holds (notice_writes (erase_layout old) text x)) r t) (back ∙ ap (drop n) same ∙ drawing-part c) (subst (λ (x : List ℕ). Written answered s (framed holds (notice_writes x text drawing)) r t) (front ∙ ap (take n) same ∙ erasing-part c) w);
   }

@@ -42,9 +42,7 @@ impl PosixRenderer {
         requires { length (composed self.old) + (n * 7 + 4) ≤ 8192 }
         ensures { composed self.new ≡ composed self.old ++ rows_up n }
     {
-        self.buffer
-            .extend_repeated(b"\r\x1b[K\x1b[A", n)
-            .unwrap();
+        self.buffer.extend_repeated(b"\r\x1b[K\x1b[A", n).unwrap();
         self.push(b"\r\x1b[K");
     }
 }

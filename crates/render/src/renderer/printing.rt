@@ -26,9 +26,7 @@ impl PosixRenderer {
         ensures { Printed T.Terminal.answered (StyledTexts H.Highlighter (now_of highlighter.entry) (block_texts block.now)) old.now block.now.layout.now text.now holds terminal.old result terminal.new (composed self.new) }
     {
         let erased = self.compose_line(block, Some(old), highlighter);
-        let bytes = self.contents();
-        let erasing = &bytes[0..erased];
-        let drawing = &bytes[erased..bytes.len()];
+        let (erasing, drawing) = self.contents().split_at(erased);
         write_notice(terminal, erasing, text, drawing, holds)
     }
 }
