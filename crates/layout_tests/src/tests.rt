@@ -94,7 +94,7 @@ fn all_end<W: WidthTable>(rt: &impl Abort, cases: &[Case]) {
 fn refusal(answer: Result<Position, Refusal>) -> u8 {
     match answer {
         Ok(_) => 0,
-        Err(refusal) => refusal.number(),
+        Err(refusal) => u8::from(refusal),
     }
 }
 
