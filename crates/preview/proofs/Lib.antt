@@ -1,3 +1,3 @@
+mod Drawing
 mod Ending
-mod Prompting
 mod Planning

@@ -2,10 +2,8 @@
 use Rattle.std.proofs.Common.{◌≡◌, ℕ, ◌+◌, ◌-◌, ◌≤◌, true, List, ◌++◌, length, take, is_some, Some, None, Option, sym, refl, ap, ◌∙◌, subst, inl, inr, le_trans, arith, length-take}
 use native.Mathlib.Nat.{sub-zero}
 use Rattle.layout.specs.declared.layout.Position.{Position}
-use Rattle.page.proofs.Needing.{needs-holds, needs-none}
 use Rattle.page.proofs.Spelt.{good-decodes, spells-decodes}
-use Rattle.page.specs.Rules.{NothingElse}
-use Rattle.preview.specs.Previewing.{CaptionRefused, EndsAt, HeightFine, PromptFine, Refuses}
+use Rattle.preview.specs.Previewing.{EndsAt, HeightFine, PromptFine, Refuses}
 use Rattle.screen.proofs.Counting.{block-place}
 use Rattle.screen.specs.Places.{place_of}
 use Rattle.screen.specs.Screen.{Geometry, block, place_row}
@@ -44,10 +42,6 @@ module _ (w : ℕ → ℕ) (narrow : (c : ℕ) → w c ≤ 2) (z : Size) (prompt
     where
       same : (x y : Position) → Some x ≡ Some y → x ≡ y
       same x y q = cc
-
--- what a check of the caption tells
-pub fine-caption : (caption : List ℕ) → CaptionRefused NothingElse caption None → GoodText caption × (length caption ≤ 4096)
-fine-caption caption h = let text = needs-none h in (text.0, needs-holds text.1)
 
 pub refuses-tall : (d : Geometry) (prompt caption cs : List ℕ) → PromptFine prompt → GoodText caption → length caption ≤ 4096 → Styled prompt cs → d.rows ≤ place_row d (block d (cs ++ chars caption)) → Refuses d prompt caption (Some refusal.Tall)
 refuses-tall d prompt caption cs p g l st h = inr (p, inr (g, inr (l, inl ((λ f. let k = f cs st in omega arith), refl))))

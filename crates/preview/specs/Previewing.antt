@@ -7,6 +7,7 @@ use Rattle.layout.specs.Measuring.{at_end}
 use Rattle.layout.specs.declared.layout.Position.{Position}
 use Rattle.page.specs.Law.{Written}
 use Rattle.page.specs.Rules.{Needs, NothingElse}
+use Rattle.page.specs.declared.outcome.BrokenAct.{BrokenAct}
 use Rattle.page.specs.declared.outcome.Rejection.{Rejection}
 use Rattle.page.specs.declared.outcome.Rejection.TheVariants.{Broke, Refused}
 use Rattle.preview.specs.declared.preview.Preview.{Preview}
@@ -15,7 +16,7 @@ use Rattle.screen.specs.Places.{place_of, top_left}
 use Rattle.screen.specs.Screen.{Geometry, Screen, block, place_row}
 use Rattle.std.specs.Str.{chars}
 use Rattle.terminal.specs.Answers.{WriteAnswer}
-use Rattle.text.specs.Checks.{Copied}
+use Rattle.terminal.specs.declared.writing.BrokenWrite.{BrokenWrite}
 use Rattle.text.specs.Texts.{GoodText, Spells, Styled, StyledText}
 use Rattle.text.specs.declared.refusal.Refusal.{Refusal}
 use Rattle.text.specs.declared.refusal.Refusal.TheVariants.{Long, Prompt, Tall, Text}
@@ -44,11 +45,6 @@ pub record Stands (d : Geometry) (prompt caption : List ℕ) (p : Preview) : Typ
   pub end : (cs : List ℕ) → Styled prompt cs → p.end ≡ place_of d (block d (cs ++ chars caption))
   pub bracket : p.bracket ≡ to_light (checked caption (length caption)) caption
 
--- the visible text of a prompt stands at the front of a buffer; or the prompt is not fine, and the buffer is as it was
-abbrev pub ShowsPrompt : List ℕ → List ℕ → List ℕ → Option ℕ → Type 0
-ShowsPrompt prompt old new (Some n) = (length prompt ≤ 512) × (n ≤ 512) × Copied prompt old new n
-ShowsPrompt prompt old new None = (new ≡ old) × (PromptFine prompt → ⊥)
-
 -- where good texts end, one behind the other
 abbrev pub EndsAt : (ℕ → ℕ) → ℕ → List ℕ → List ℕ → Option Position → Type 0
 EndsAt w cols first second r =
@@ -59,17 +55,21 @@ abbrev pub Plans : Geometry → List ℕ → List ℕ → Result Preview Refusal
 Plans d prompt caption (Ok p) = Refuses d prompt caption None × Stands d prompt caption p
 Plans d prompt caption (Err e) = Refuses d prompt caption (Some e)
 
+-- how a write ends, with its number where it breaks an act
+abbrev pub numbered : ℕ → Result (Unit {0}) BrokenWrite → Result (Unit {0}) BrokenAct
+numbered n (Ok u) = Ok u
+numbered n (Err e) = Err (record { number = n; write = e })
+
 module _ {T : Type 0} (answered : T → List ℕ → WriteAnswer → T → Type 0) (screen : T → Screen) (d : Geometry) (prompt caption : List ℕ) where
   -- prompt and caption are drawn by their bytes
   pub record Drawn (before after : T) : Type 0 where
     pub writes : Written answered before (prompt ∷ caption ∷ []) (Ok tt) after
     pub drawn : screen after ≡ feed d caption (feed d prompt (screen before))
 
-  -- the drawing of what was planned
-  abbrev pub Draws : Preview → T → Result Preview Rejection → T → Type 0
-  Draws planned before (Ok p) after = (p ≡ planned) × Drawn before after
-  Draws planned before (Err (Refused e)) after = ⊥
-  Draws planned before (Err (Broke b)) after = Written answered before (prompt ∷ caption ∷ []) (Err b) after
+  -- they are drawn, or one of the two writes breaks
+  abbrev pub Draws : T → Result (Unit {0}) BrokenAct → T → Type 0
+  Draws before (Ok _) after = Drawn before after
+  Draws before (Err b) after = Written answered before (prompt ∷ caption ∷ []) (Err b) after
 
   -- a preview: drawn; or refused, with nothing written; or broken by the terminal
   abbrev pub Previews : T → Result Preview Rejection → T → Type 0
