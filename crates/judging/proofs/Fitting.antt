@@ -13,6 +13,7 @@ use Rattle.page.specs.Acts.{fitted}
 use Rattle.page.specs.Page.{note_text}
 use Rattle.screen.specs.Screen.{Geometry, block, place_row}
 use Rattle.std.proofs.lemmas.Bool.{cond-false, cond-true, le-ltb, lt-ltb}
+use Rattle.std.specs.Option.{unwrap_or}
 use Rattle.std.specs.Str.{chars}
 use Rattle.terminal.specs.Windows.{geometry}
 use Rattle.terminal.specs.declared.size.Size.{Size}
@@ -36,13 +37,10 @@ module _ (d : Geometry) (ps line : List ℕ) where
       sym (cond-false (ltb (place_row d (block d (ps ++ (chars line ++ chars t)))) d.rows) (Some t) None (le-ltb (place_row d (block d (ps ++ (chars line ++ chars t)))) d.rows h))
 
 module _ (w : ℕ → ℕ) (p : Position) (z : Size) (e : LineEnds) where
-  -- the layout of a line that the window holds
-  pub lays : (l : Layout) → Computes w z p e None (Some l) → LaysLine w p z e l
-  lays l laid ps line pos s = (laid ps line pos s.behind.good s.behind.prompt s.text s.place s.ends tt).1
-
-  -- such a line has one
-  pub lays-always : (l : Layout) → Computes w z p e None None → LaysLine w p z e l
-  lays-always l none ps line pos s =
+  -- a line that the window holds has a layout, whatever stands for none
+  pub lays : (o : Option Layout) (d : Layout) → Computes w z p e None o → LaysLine w p z e (unwrap_or o d)
+  lays (Some l) d laid ps line pos s = (laid ps line pos s.behind.good s.behind.prompt s.text s.place s.ends tt).1
+  lays None d none ps line pos s =
       absurd (not_low (geometry w z) ps line (none ps line pos s.behind.good s.behind.prompt s.text s.place s.ends tt) s.low)
 
   module _ (n : Note) (copy : Option (List ℕ)) (same : copy ≡ note_of n) where

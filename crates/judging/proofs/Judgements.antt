@@ -13,6 +13,7 @@ use Rattle.measuring.specs.Measured.{Computes, Inserts, Measures}
 use Rattle.measuring.specs.declared.measuring.LineEnds.{LineEnds}
 use Rattle.page.proofs.Spelt.{insert-boundary, insert-good, one-good}
 use Rattle.page.specs.Rules.{AtBoundary}
+use Rattle.std.specs.Option.{ok_or}
 use Rattle.terminal.specs.Windows.{geometry}
 use Rattle.terminal.specs.declared.size.Size.{Size}
 use Rattle.text.specs.Texts.{GoodText}
@@ -76,15 +77,13 @@ module _ (w : ℕ → ℕ) (p : Position) (z : Size) where
     pub message-unmeasured : (r : Result Layout Refusal) → Measures w cols p copy q None → JudgesMessage w p z (line_of b) b.pos t r
     message-unmeasured r m ps at = absurd (measures-same (line_of b) copy b.pos q cols None same place wide m ps at.prompt (line-good b) (line-short b) (line-place b))
 
-    pub message-low : (e : LineEnds) (l : Layout) → Measures w cols p copy q (Some e) → Computes w z p e (Some t) (Some l) → JudgesMessage w p z (line_of b) b.pos t (Ok l)
-    message-low e l m laid ps at =
+    pub message-laid : (e : LineEnds) (o : Option Layout) → Measures w cols p copy q (Some e) → Computes w z p e (Some t) o → JudgesMessage w p z (line_of b) b.pos t (ok_or o Tall)
+    message-laid e (Some l) m laid ps at =
         let fine = note-fine t rule in
         let ends = measures-same (line_of b) copy b.pos q cols (Some e) same place wide m ps at.prompt (line-good b) (line-short b) (line-place b) in
         let both = laid ps (line_of b) b.pos at.good at.prompt (line-good b) (line-place b) ends fine in
         record { refuses = inr (fine.0, inr (fine.1, inr (both.0, refl))); tells = both.1 }
-
-    pub message-tall : (e : LineEnds) → Measures w cols p copy q (Some e) → Computes w z p e (Some t) None → JudgesMessage w p z (line_of b) b.pos t (Err Tall)
-    message-tall e m none ps at =
+    message-laid e None m none ps at =
         let fine = note-fine t rule in
         let ends = measures-same (line_of b) copy b.pos q cols (Some e) same place wide m ps at.prompt (line-good b) (line-short b) (line-place b) in
         let high = none ps (line_of b) b.pos at.good at.prompt (line-good b) (line-place b) ends fine in

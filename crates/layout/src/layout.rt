@@ -4,11 +4,11 @@ ghost use Rattle.layout.specs.Positions.{comparison, TotallyOrdered};
 
 use std::cmp::Ordering;
 
-// A place: the leftmost column and the highest row are 0.
-#[derive(Clone, Copy, PartialEq, Eq)]
+// A place: the leftmost column and the highest row are 0. Rows count before columns.
+#[derive(Clone, Copy, Debug, PartialEq, Eq, PartialOrd, Ord)]
 pub struct Position {
-    pub col: u16,
     pub row: u16,
+    pub col: u16,
 }
 
 impl Position {
@@ -17,6 +17,6 @@ impl Position {
         ensures value { result ≡ comparison self other }
         ensures order { TotallyOrdered }
     {
-        self.row.cmp(&other.row).then(self.col.cmp(&other.col))
+        self.cmp(&other)
     }
 }

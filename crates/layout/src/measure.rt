@@ -5,8 +5,15 @@ ghost use Rattle.layout.specs.Measuring.{next_row, behind, tabbed, sequence_afte
 use crate::layout::Position;
 use std::str::from_utf8;
 use text::refusal::Refusal;
-use widths::clusters::{ClusterAt, cluster_at};
+use widths::clusters::{ClusterAt, Clusters};
 use widths::tables::WidthTable;
+
+// Rows of so many columns, with a tab stop every so many columns.
+#[derive(Clone, Copy)]
+pub struct Rows {
+    pub cols: u16,
+    pub tab_stop: u16,
+}
 
 // How far an escape sequence has come.
 #[derive(Clone, Copy)]
@@ -49,23 +56,23 @@ impl Position {
         }
         Position {
             col: self.col + width,
-            row: self.row,
+            ..self
         }
     }
 
     // The next tab stop, at most the last column; from there on a tab stays put.
-    fn tabbed(self, cols: u16, tab_stop: u16) -> Position
-        requires { 0 < tab_stop }
-        ensures { result ≡ tabbed cols tab_stop self }
+    fn tabbed(self, rows: Rows) -> Position
+        requires { 0 < rows.tab_stop }
+        ensures { result ≡ tabbed rows.cols rows.tab_stop self }
     {
-        let last = cols.saturating_sub(1);
+        let last = rows.cols.saturating_sub(1);
         if self.col >= last {
             return self;
         }
-        let step = tab_stop - self.col % tab_stop;
+        let step = rows.tab_stop - self.col % rows.tab_stop;
         Position {
             col: self.col + step.min(last - self.col),
-            row: self.row,
+            ..self
         }
     }
 
@@ -118,47 +125,47 @@ impl Walk {
     }
 
     // One cluster further.
-    fn step(self, cluster: ClusterAt, cols: u16, tab_stop: u16) -> Walk
-        requires { (self.position.row < 65535) × (0 < tab_stop) }
-        ensures { result ≡ step_over cols tab_stop cluster.first cluster.bare cluster.width self }
+    fn step(self, cluster: ClusterAt, rows: Rows) -> Walk
+        requires { (self.position.row < 65535) × (0 < rows.tab_stop) }
+        ensures { result ≡ step_over rows.cols rows.tab_stop cluster.first cluster.bare cluster.width self }
     {
         match cluster.first {
             '\n' => Walk {
                 position: self.position.next_row(),
-                escape: self.escape,
+                ..self
             },
             '\t' => Walk {
-                position: self.position.tabbed(cols, tab_stop),
-                escape: self.escape,
+                position: self.position.tabbed(rows),
+                ..self
             },
             _ => Walk {
-                position: self.position.behind(self.escape.columns(cluster), cols),
+                position: self
+                    .position
+                    .behind(self.escape.columns(cluster), rows.cols),
                 escape: self.escape.after(cluster),
             },
         }
     }
 
     // Whether rows cannot run out over so many bytes.
-    fn has_room(self, len: usize, tab_stop: u16) -> bool
-        ensures { result ≡ has_room len tab_stop self }
+    fn has_room(self, len: usize, rows: Rows) -> bool
+        ensures { result ≡ has_room len rows.tab_stop self }
     {
-        tab_stop >= 1 && len <= usize::from(u16::MAX - self.position.row)
+        rows.tab_stop >= 1 && len <= usize::from(u16::MAX - self.position.row)
     }
 
     // The walk behind a text: none where rows could run out, the tab stop is 0, or the text is no UTF-8.
-    pub fn advance<W: WidthTable>(self, text: &[u8], cols: u16, tab_stop: u16) -> Option<Walk>
-        ensures { Advances W.WidthTable.columns text.now cols tab_stop self result }
+    pub fn advance<W: WidthTable>(self, text: &[u8], rows: Rows) -> Option<Walk>
+        ensures { Advances W.WidthTable.columns text.now rows.cols rows.tab_stop self result }
     {
-        if !self.has_room(text.len(), tab_stop) {
+        if !self.has_room(text.len(), rows) {
             return None;
         }
         let mut walk = self;
-        let mut at = 0;
-        while let Some(cluster) = cluster_at::<W>(text, at) {
-            walk = walk.step(cluster, cols, tab_stop);
-            at += cluster.len;
+        for cluster in Clusters::<W>::new(text) {
+            walk = walk.step(cluster.ok()?, rows);
         }
-        if at == text.len() { Some(walk) } else { None }
+        Some(walk)
     }
 
     // The place that the walk has come to, a full row counting as column 0 of the next: none below row 65,535.
@@ -176,38 +183,35 @@ impl Walk {
 // The longest text that is measured, in bytes.
 const MAX_TEXT: usize = 4096;
 
-// Whether sizes, tab stop and origin are in range.
-fn in_range(cols: u16, tab_stop: u16, origin: Position) -> bool
-    ensures { result ≡ in_range cols tab_stop origin }
-{
-    2 <= cols
-        && cols <= 500
-        && 1 <= tab_stop
-        && tab_stop <= 32
-        && origin.row <= 60_000
-        && origin.col <= 500
+impl Rows {
+    // Whether columns, tab stop and an origin are in range.
+    fn in_range(self, origin: Position) -> bool
+        ensures { result ≡ in_range self.cols self.tab_stop origin }
+    {
+        (2..=500).contains(&self.cols)
+            && (1..=32).contains(&self.tab_stop)
+            && origin.row <= 60_000
+            && origin.col <= 500
+    }
 }
 
 // The place where a text ends that is drawn from an origin.
 pub fn calculate_position<W: WidthTable>(
     text: &[u8],
-    cols: u16,
-    tab_stop: u16,
+    rows: Rows,
     origin: Position,
 ) -> Result<Position, Refusal>
-    ensures { Measures W.WidthTable.columns text.now cols tab_stop origin result }
+    ensures { Measures W.WidthTable.columns text.now rows.cols rows.tab_stop origin result }
 {
-    if !in_range(cols, tab_stop, origin) {
+    if !rows.in_range(origin) {
         return Err(Refusal::Size);
     }
     if text.len() > MAX_TEXT {
-        return match from_utf8(text) {
-            Ok(_) => Err(Refusal::Long),
-            Err(_) => Err(Refusal::Text),
-        };
+        from_utf8(text).map_err(|_| Refusal::Text)?;
+        return Err(Refusal::Long);
     }
-    match Walk::start(origin).advance::<W>(text, cols, tab_stop) {
-        Some(walk) => Ok(walk.position.at_end(cols)),
-        None => Err(Refusal::Text),
-    }
+    let walk = Walk::start(origin)
+        .advance::<W>(text, rows)
+        .ok_or(Refusal::Text)?;
+    Ok(walk.position.at_end(rows.cols))
 }

@@ -1,7 +1,7 @@
 // Measured texts. The expected places of LATIN and EASTERN were printed by rustyline's own `calculate_position`, compiled
 // with these width tables and clusters in place of its libraries; those of DIFFERENT follow from our rules, where it answers otherwise.
 use layout::layout::Position;
-use layout::measure::{Walk, calculate_position};
+use layout::measure::{Rows, Walk, calculate_position};
 use std::cmp::Ordering;
 use std::process::Abort;
 use std::test::Fail;
@@ -76,25 +76,15 @@ fn measured<W: WidthTable>(
     origin: (u16, u16),
 ) -> Result<Position, Refusal> {
     let (col, row) = origin;
-    calculate_position::<W>(text, cols, tab_stop, Position { col, row })
+    calculate_position::<W>(text, Rows { cols, tab_stop }, Position { col, row })
 }
 
 // Whether each case ends where it should.
 fn all_end<W: WidthTable>(rt: &impl Abort, cases: &[Case]) {
     for (number, case) in cases.iter().enumerate() {
         let Case(text, cols, tab_stop, origin, (col, row)) = *case;
-        match measured::<W>(text, cols, tab_stop, origin) {
-            Ok(place) => assert!(rt; place.col == col && place.row == row, "{}", number),
-            Err(_) => assert!(rt; false, "{}", number),
-        }
-    }
-}
-
-// The number of a refusal, 0 for a place.
-fn refusal(answer: Result<Position, Refusal>) -> u8 {
-    match answer {
-        Ok(_) => 0,
-        Err(refusal) => u8::from(refusal),
+        let place = measured::<W>(text, cols, tab_stop, origin);
+        assert_eq!(rt; place, Ok(Position { col, row }), "{}", number);
     }
 }
 
@@ -105,39 +95,27 @@ fn places(rt: HostRuntime) {
     all_end::<Latin>(&rt, &DIFFERENT);
 }
 
+// Columns, tab stop and origin, and whether they are refused.
+const SIZES: [(u16, u16, (u16, u16), Option<Refusal>); 12] = [
+    (1, 8, (0, 0), Some(Refusal::Size)),
+    (2, 8, (0, 0), None),
+    (500, 8, (0, 0), None),
+    (501, 8, (0, 0), Some(Refusal::Size)),
+    (80, 0, (0, 0), Some(Refusal::Size)),
+    (80, 1, (0, 0), None),
+    (80, 32, (0, 0), None),
+    (80, 33, (0, 0), Some(Refusal::Size)),
+    (80, 8, (0, 60_000), None),
+    (80, 8, (0, 60_001), Some(Refusal::Size)),
+    (80, 8, (500, 0), None),
+    (80, 8, (501, 0), Some(Refusal::Size)),
+];
+
 #[test]
 fn sizes(rt: HostRuntime) {
-    for (cols, number) in [(1, 1), (2, 0), (500, 0), (501, 1)] {
-        assert_eq!(rt;
-            refusal(measured::<Latin>(b"a", cols, 8, (0, 0))),
-            number,
-            "{}",
-            cols
-        );
-    }
-    for (tab_stop, number) in [(0, 1), (1, 0), (32, 0), (33, 1)] {
-        assert_eq!(rt;
-            refusal(measured::<Latin>(b"a", 80, tab_stop, (0, 0))),
-            number,
-            "{}",
-            tab_stop
-        );
-    }
-    for (row, number) in [(60_000, 0), (60_001, 1)] {
-        assert_eq!(rt;
-            refusal(measured::<Latin>(b"a", 80, 8, (0, row))),
-            number,
-            "{}",
-            row
-        );
-    }
-    for (col, number) in [(500, 0), (501, 1)] {
-        assert_eq!(rt;
-            refusal(measured::<Latin>(b"a", 80, 8, (col, 0))),
-            number,
-            "{}",
-            col
-        );
+    for (number, (cols, tab_stop, origin, refusal)) in SIZES.into_iter().enumerate() {
+        let place = measured::<Latin>(b"a", cols, tab_stop, origin);
+        assert_eq!(rt; place.err(), refusal, "{}", number);
     }
 }
 
@@ -145,25 +123,42 @@ fn sizes(rt: HostRuntime) {
 fn texts(rt: HostRuntime) {
     let letters = [b'a'; 4097];
     let bad = [0xff; 4097];
+    assert!(rt; measured::<Latin>(&letters[..4096], 500, 8, (0, 60_000)).is_ok());
     assert_eq!(rt;
-        refusal(measured::<Latin>(&letters[0..4096], 500, 8, (0, 60_000))),
-        0
+        measured::<Latin>(&letters, 500, 8, (0, 0)),
+        Err(Refusal::Long)
     );
-    assert_eq!(rt; refusal(measured::<Latin>(&letters, 500, 8, (0, 0))), 4);
-    assert_eq!(rt; refusal(measured::<Latin>(&bad[0..1], 500, 8, (0, 0))), 3);
-    assert_eq!(rt; refusal(measured::<Latin>(&bad, 500, 8, (0, 0))), 3);
-    assert_eq!(rt; refusal(measured::<Latin>(&bad, 501, 8, (0, 0))), 1);
+    assert_eq!(rt;
+        measured::<Latin>(&bad[..1], 500, 8, (0, 0)),
+        Err(Refusal::Text)
+    );
+    assert_eq!(rt; measured::<Latin>(&bad, 500, 8, (0, 0)), Err(Refusal::Text));
+    assert_eq!(rt; measured::<Latin>(&bad, 501, 8, (0, 0)), Err(Refusal::Size));
 }
 
 #[test]
 fn walks(rt: HostRuntime) -> Result<(), Fail> {
+    let rows = Rows {
+        cols: 5,
+        tab_stop: 8,
+    };
     let start = Walk::start(Position { col: 0, row: 0 });
-    let prompt = start.advance::<Latin>(b"> \x1b[1", 5, 8).ok_or("prompt")?;
-    let line = prompt.advance::<Latin>(b"mabc", 5, 8).ok_or("line")?;
+    let prompt = start.advance::<Latin>(b"> \x1b[1", rows).ok_or("prompt")?;
+    let line = prompt.advance::<Latin>(b"mabc", rows).ok_or("line")?;
     let end = line.place(5).ok_or("end")?;
-    assert!(rt; end.col == 0 && end.row == 1);
-    assert!(rt; matches!(prompt.position.compare(end), Ordering::Less));
-    assert!(rt; start.advance::<Latin>(b"a", 5, 0).is_none());
+    assert_eq!(rt; end, Position { col: 0, row: 1 });
+    assert_eq!(rt; prompt.position.compare(end), Ordering::Less);
+    assert!(rt;
+        start
+            .advance::<Latin>(
+                b"a",
+                Rows {
+                    tab_stop: 0,
+                    ..rows
+                }
+            )
+            .is_none()
+    );
     assert!(rt;
         Walk::start(Position {
             col: 5,

@@ -1,11 +1,12 @@
 -- Where a line ends behind a prompt, up to the edit position and as a whole. Assumes nothing.
-use Rattle.std.proofs.Common.{◌≡◌, ℕ, ◌+◌, ◌-◌, ◌*◌, ◌≤◌, List, ◌++◌, length, take, drop, Some, None, Option, sym, ap, ◌∙◌, subst, append_assoc, le_refl, arith, length-append}
-use native.Mathlib.Nat.{sub-zero}
+use Rattle.std.proofs.Common.{◌≡◌, ℕ, ◌+◌, ◌-◌, ◌*◌, ◌≤◌, List, [], ◌∷◌, ◌++◌, length, take, drop, Some, None, Option, sym, ap, ◌∙◌, subst, refl, inr, add-zero, append_assoc, le_refl, arith, length-append}
 use Rattle.layout.proofs.GoodTexts.{walk_place-append}
 use Rattle.layout.specs.Drawing.{walk_place}
 use Rattle.layout.specs.declared.layout.Position.{Position}
 use Rattle.measuring.proofs.Reaching.{some-none, some_same}
-use Rattle.measuring.specs.Measured.{Inserts, Measures, PromptAt, Repeats, Walks}
+use Rattle.measuring.specs.declared.measuring.LineEnds.{LineEnds}
+use Rattle.text.specs.Characters.{Good}
+use Rattle.measuring.specs.Measured.{Gives, Inserts, Measures, PromptAt, Repeats, Walks}
 use Rattle.page.proofs.Spelt.{cut-decodes, good-cut, good-times, insert-front, one-good}
 use Rattle.page.specs.Acts.{times}
 use Rattle.page.specs.Rules.{AtBoundary}
@@ -50,39 +51,17 @@ module _ (w : ℕ → ℕ) (cols : ℕ) where
 
   module _ (p : Position) (line : List ℕ) (pos : ℕ) where
     -- the part before the edit position
-    front : (ps : List ℕ) → PromptAt w cols ps p → GoodText line → length line ≤ 4096 → AtBoundary line pos → (r : Option Position) → Walks w cols p (take (pos - 0) line) r → Leads (ps ++ chars (take pos line)) (512 + length (take pos line)) r
+    front : (ps : List ℕ) → PromptAt w cols ps p → GoodText line → length line ≤ 4096 → AtBoundary line pos → (r : Option Position) → Walks w cols p (take pos line) r → Leads (ps ++ chars (take pos line)) (512 + length (take pos line)) r
     front ps at good len cut r walks =
         let both = ap length (take-append-drop pos line) in
         let sum = length-append (take pos line) (drop pos line) in
         next ps (ps ++ chars (take pos line)) (take pos line) 512 (512 + length (take pos line)) p r at.wide (record { is = at.place; row = at.low }) (good-cut line pos good cut).0 (λ i. ps ++ chars (take pos line)) (le_refl _) (omega arith)
-        (subst (λ (x : ℕ). Walks w cols p (take x line) r) (sub-zero pos) walks)
+        walks
 
     -- the part behind it
     rest : (cs ds : List ℕ) (k m : ℕ) (a : Position) (r : Option Position) → 2 ≤ cols → Reached cs k a → GoodText line → AtBoundary line pos → cs ++ chars (drop pos line) ≡ ds → k + length (drop pos line) ≤ m → m ≤ 65535 → Walks w cols a (take (length line - pos) (drop pos line)) r → Leads ds m r
     rest cs ds k m a r wide at good cut e less low walks =
         next cs ds (drop pos line) k m a r wide at (good-cut line pos good cut).1 e less low (subst (λ (x : List ℕ). Walks w cols a x r) (take_rest line pos) walks)
-
-    -- all of the line
-    whole : (ps : List ℕ) (a : Position) (r : Option Position) → 2 ≤ cols → GoodText line → length line ≤ 4096 → AtBoundary line pos → Reached (ps ++ chars (take pos line)) (512 + length (take pos line)) a → Walks w cols a (take (length line - pos) (drop pos line)) r → Leads (ps ++ chars line) (512 + length line) r
-    whole ps a r wide good len cut at walks =
-        let both = ap length (take-append-drop pos line) in
-        let sum = length-append (take pos line) (drop pos line) in
-        rest (ps ++ chars (take pos line)) (ps ++ chars line) (512 + length (take pos line)) (512 + length line) a r wide at good cut
-        (append_assoc ps (chars (take pos line)) (chars (drop pos line)) ∙ ap (λ (x : List ℕ). ps ++ x) (sym (cut-decodes line pos cut)))
-        (omega arith) (omega arith) walks
-
-    pub no_front : Walks w cols p (take (pos - 0) line) None → Measures w cols p line pos None
-    no_front f ps at good len cut = front ps at good len cut None f
-
-    pub no-rest : (a : Position) → Walks w cols p (take (pos - 0) line) (Some a) → Walks w cols a (take (length line - pos) (drop pos line)) None → Measures w cols p line pos None
-    no-rest a f b ps at good len cut = whole ps a None at.wide good len cut (front ps at good len cut (Some a) f) b
-
-    pub measures : (a e : Position) → Walks w cols p (take (pos - 0) line) (Some a) → Walks w cols a (take (length line - pos) (drop pos line)) (Some e) → Measures w cols p line pos (Some (record { cursor = a; end = e }))
-    measures a e f b ps at good len cut =
-        let x = front ps at good len cut (Some a) f in
-        let y = whole ps a (Some e) at.wide good len cut x b in
-        let row = y.row in
-        record { cursor = x.is; end = y.is; low = omega arith }
 
     module _ (t : List ℕ) (n : ℕ) where
       abbrev New : List ℕ
@@ -111,19 +90,29 @@ module _ (w : ℕ → ℕ) (cols : ℕ) where
           ∙ ap (λ (x : List ℕ). ps ++ x) (ap (λ (x : List ℕ). chars x ++ chars (drop pos line)) (insert-front line t pos n cut.0) ∙ sym (chars-append (take pos line ++ times n t) (drop pos line) fine) ∙ ap chars (append_assoc (take pos line) (times n t) (drop pos line))))
           (omega arith) (omega arith) walks
 
-      pub insert-no-front : Walks w cols p (take (pos - 0) line) None → Inserts w cols p line pos t n None
+      pub insert-no-front : Walks w cols p (take pos line) None → Inserts w cols p line pos t n None
       insert-no-front f ps at good len cut one = front ps at good (omega arith) cut None f
 
-      pub insert-no-text : (a : Position) → Walks w cols p (take (pos - 0) line) (Some a) → Repeats w cols a t n None → Inserts w cols p line pos t n None
+      pub insert-no-text : (a : Position) → Walks w cols p (take pos line) (Some a) → Repeats w cols a t n None → Inserts w cols p line pos t n None
       insert-no-text a f m ps at good len cut one = put ps a None at.wide good len cut (one-good t one) (front ps at good (omega arith) cut (Some a) f) m
 
-      pub insert-no-rest : (a b : Position) → Walks w cols p (take (pos - 0) line) (Some a) → Repeats w cols a t n (Some b) → Walks w cols b (take (length line - pos) (drop pos line)) None → Inserts w cols p line pos t n None
+      pub insert-no-rest : (a b : Position) → Walks w cols p (take pos line) (Some a) → Repeats w cols a t n (Some b) → Walks w cols b (take (length line - pos) (drop pos line)) None → Inserts w cols p line pos t n None
       insert-no-rest a b f m l ps at good len cut one =
           behind ps b None at.wide good len cut (one-good t one) (put ps a (Some b) at.wide good len cut (one-good t one) (front ps at good (omega arith) cut (Some a) f) m) l
 
-      pub inserts : (a b e : Position) → Walks w cols p (take (pos - 0) line) (Some a) → Repeats w cols a t n (Some b) → Walks w cols b (take (length line - pos) (drop pos line)) (Some e) → Inserts w cols p line pos t n (Some (record { cursor = b; end = e }))
+      pub inserts : (a b e : Position) → Walks w cols p (take pos line) (Some a) → Repeats w cols a t n (Some b) → Walks w cols b (take (length line - pos) (drop pos line)) (Some e) → Inserts w cols p line pos t n (Some (record { cursor = b; end = e }))
       inserts a b e f m l ps at good len cut one =
           let x = put ps a (Some b) at.wide good len cut (one-good t one) (front ps at good (omega arith) cut (Some a) f) m in
           let y = behind ps b (Some e) at.wide good len cut (one-good t one) x l in
           let row = y.row in
           record { cursor = x.is; end = y.is; low = omega arith }
+
+  -- a line is measured as with a space put in no times
+  pub measures-insert : (p : Position) (line : List ℕ) (pos : ℕ) (r : Option LineEnds) → Inserts w cols p line pos (32 ∷ []) 0 r → Measures w cols p line pos r
+  unfolding lib.Utf8.encode
+  measures-insert p line pos r inserted ps at good len cut =
+      subst (λ (x : List ℕ). Gives w cols ps x pos r) (take-append-drop pos line)
+      (subst (λ k. Gives w cols ps (take pos line ++ drop pos line) k r) (add-zero pos) (inserted ps at good (omega arith) cut (32, good-space, refl)))
+    where
+      good-space : Good 32
+      good-space = (refl, inr refl)

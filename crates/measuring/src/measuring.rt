@@ -5,7 +5,7 @@ ghost use Rattle.std.specs.Option.{option_map};
 
 use layout::block::Layout;
 use layout::layout::Position;
-use layout::measure::Walk;
+use layout::measure::{Rows, Walk};
 use terminal::size::Size;
 use widths::tables::WidthTable;
 
@@ -23,7 +23,11 @@ pub struct LineEnds {
 pub fn walk_text<W: WidthTable>(from: Position, text: &[u8], cols: u16) -> Option<Position>
     ensures { Walks W.WidthTable.columns cols from text.now result }
 {
-    let walk = Walk::start(from).advance::<W>(text, cols, TAB_STOP)?;
+    let rows = Rows {
+        cols,
+        tab_stop: TAB_STOP,
+    };
+    let walk = Walk::start(from).advance::<W>(text, rows)?;
     Some(walk.position)
 }
 
@@ -52,12 +56,8 @@ pub fn measure_line<W: WidthTable>(
 ) -> Option<LineEnds>
     ensures { Measures W.WidthTable.columns cols prompt line.now pos result }
 {
-    if pos > line.len() {
-        return None;
-    }
-    let cursor = walk_text::<W>(prompt, &line[0..pos], cols)?;
-    let end = walk_text::<W>(cursor, &line[pos..line.len()], cols)?;
-    Some(LineEnds { cursor, end })
+    // as with a space put in no times
+    measure_insert::<W>(prompt, line, pos, b" ", 0, cols)
 }
 
 // Measures a line into which a character is put so many times before the edit position.
@@ -74,31 +74,40 @@ pub fn measure_insert<W: WidthTable>(
     if pos > line.len() {
         return None;
     }
-    let front = walk_text::<W>(prompt, &line[0..pos], cols)?;
+    let front = walk_text::<W>(prompt, &line[..pos], cols)?;
     let cursor = walk_repeated::<W>(front, text, count, cols)?;
-    let end = walk_text::<W>(cursor, &line[pos..line.len()], cols)?;
+    let end = walk_text::<W>(cursor, &line[pos..], cols)?;
     Some(LineEnds { cursor, end })
 }
 
-// The layout of a prompt and a line without a note: none where the window does not hold them.
-pub fn line_layout<W: WidthTable>(prompt: Position, line: LineEnds, size: Size) -> Option<Layout>
-    ensures { Computes W.WidthTable.columns size prompt line None result }
-{
-    Layout::new(prompt, line.cursor, line.end, size.cols(), size.rows())
+// A window, and where the prompt ends in it, counted from the block's start.
+#[derive(Clone, Copy)]
+pub struct Window {
+    pub size: Size,
+    pub prompt: Position,
 }
 
-// The layout of a prompt, a line and a note, if there is one: none where the window does not hold them.
-pub fn compute_layout<W: WidthTable>(
-    prompt: Position,
-    line: LineEnds,
-    note: Option<&[u8]>,
-    size: Size,
-) -> Option<Layout>
-    ensures { Computes W.WidthTable.columns size prompt line (option_map (λ x. x.now) note.entry) result }
-{
-    let Some(text) = note else {
-        return line_layout::<W>(prompt, line, size);
-    };
-    let end = walk_text::<W>(line.end, text, size.cols())?;
-    Layout::new(prompt, line.cursor, end, size.cols(), size.rows())
+impl Window {
+    // The layout of a prompt and a line without a note: none where the window does not hold them.
+    pub fn line_layout<W: WidthTable>(self, line: LineEnds) -> Option<Layout>
+        ensures { Computes W.WidthTable.columns self.size self.prompt line None result }
+    {
+        self.compute_layout::<W>(line, None)
+    }
+
+    // The layout of a prompt, a line and a note, if there is one: none where the window does not hold them.
+    pub fn compute_layout<W: WidthTable>(
+        self,
+        line: LineEnds,
+        note: Option<&[u8]>,
+    ) -> Option<Layout>
+        ensures { Computes W.WidthTable.columns self.size self.prompt line (option_map (λ x. x.now) note.entry) result }
+    {
+        let cols = self.size.cols();
+        let end = match note {
+            Some(text) => walk_text::<W>(line.end, text, cols)?,
+            None => line.end,
+        };
+        Layout::new(self.prompt, line.cursor, end, cols, self.size.rows())
+    }
 }

@@ -5,7 +5,7 @@ ghost use Rattle.preview.specs.Previewing.{Previews, Plans, Draws, EndsAt, numbe
 
 use highlight::brackets::{Bracket, bracket_to_light, check_bracket};
 use layout::layout::Position;
-use layout::measure::Walk;
+use layout::measure::{Rows, Walk};
 use page::outcome::{BrokenAct, Rejection};
 use terminal::size::Size;
 use terminal::terminal::Terminal;
@@ -33,9 +33,13 @@ fn end_of<W: WidthTable>(first: &[u8], second: &[u8], cols: u16) -> Option<Posit
     requires { 2 ≤ cols }
     ensures { EndsAt W.WidthTable.columns cols first.now second.now result }
 {
+    let rows = Rows {
+        cols,
+        tab_stop: TAB_STOP,
+    };
     let start = Walk::start(Position { col: 0, row: 0 });
-    let behind = start.advance::<W>(first, cols, TAB_STOP)?;
-    let end = behind.advance::<W>(second, cols, TAB_STOP)?;
+    let behind = start.advance::<W>(first, rows)?;
+    let end = behind.advance::<W>(second, rows)?;
     end.place(cols)
 }
 

@@ -2,7 +2,6 @@
 use Rattle.std.proofs.Common.{◌≡◌, ℕ, ◌+◌, Bool, true, false, cond, not, ◌&&◌, eqb, List, [], ◌∷◌, ◌++◌, drop, sym, refl, ap, ◌∙◌, append_assoc, arith}
 use lib.Utf8.{encode, encodes, scalar, scalars}
 use Rattle.std.proofs.lemmas.Bool.{cond-true, cond-false, and_from, and_parts, and_left, and_right, not-true, not_from_false, eqb-true, both_ways}
-use Rattle.std.proofs.lemmas.List.{drop-drop}
 use Rattle.std.proofs.lemmas.Str.{cons_from_encodes}
 use Rattle.text.specs.Characters.{is_control}
 use Rattle.text.specs.Decoding.{NoCharacter}
@@ -89,25 +88,24 @@ unmarked w cs bs valid e none d ds is =
     let s : (scalar d && scalars ds) ≡ true = rw is at valid in
     none d (encodes ds) (and_parts (scalar d) (scalars ds) s).0 (sym e ∙ ap encodes is)
 
--- the cluster found at an index is the first of the characters from there on, and the clusters of the rest follow it
-pub record Follows (w : ℕ → ℕ) (cs bytes : List ℕ) (at : ℕ) (k : ClusterAt) (ms : List ℕ) : Type 0 where
+-- the cluster at the front is the first of the characters, and the clusters of the rest follow it
+pub record Follows (w : ℕ → ℕ) (cs bs : List ℕ) (k : ClusterAt) (ms : List ℕ) : Type 0 where
   pub rest : List ℕ
   pub characters : cs ≡ k.first ∷ (ms ++ rest)
   pub valid : scalars rest ≡ true
-  pub left : encodes rest ≡ drop (at + k.len) bytes
+  pub left : encodes rest ≡ drop k.len bs
   pub split : clusters w cs ≡ cluster k.first ms ∷ clusters w rest
 
-pub follows : (w : ℕ → ℕ) (cs bytes : List ℕ) (at : ℕ) (k : ClusterAt) → scalars cs ≡ true → encodes cs ≡ drop at bytes
-    → (f : FrontCluster w (drop at bytes) k) → Follows w cs bytes at k f.marks
-follows w cs bytes at k valid e f =
-    let s = split-encodes (k.first ∷ f.marks) cs (drop k.len (drop at bytes)) (e ∙ f.front.bytes) in
+pub follows : (w : ℕ → ℕ) (cs bs : List ℕ) (k : ClusterAt) → scalars cs ≡ true → encodes cs ≡ bs → (f : FrontCluster w bs k) → Follows w cs bs k f.marks
+follows w cs bs k valid e f =
+    let s = split-encodes (k.first ∷ f.marks) cs (drop k.len bs) (e ∙ f.front.bytes) in
     let ok : scalars ((k.first ∷ f.marks) ++ s.0) ≡ true = rw s.1 at valid in
     let ok-rest = scalars-rest (k.first ∷ f.marks) s.0 ok in
     record {
       rest = s.0;
       characters = s.1;
       valid = ok-rest;
-      left = s.2 ∙ drop-drop k.len at bytes;
+      left = s.2;
       split = ap (clusters w) s.1 ∙ clusters-front w k.first f.marks s.0 f.all-marks f.alone (λ h. unmarked w s.0 _ ok-rest s.2 (f.next h));
     }
 

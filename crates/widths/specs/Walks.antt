@@ -1,8 +1,9 @@
 -- A walk over the clusters of some bytes. Assumes nothing.
-use Rattle.std.specs.Prelude.{◌≡◌, ℕ, ◌<◌, ◌≤◌, List, length, drop, Some, None, Option}
+use Rattle.std.specs.Prelude.{◌≡◌, ◌≢◌, ℕ, ◌<◌, ◌≤◌, List, [], length, drop, Some, None, Ok, Err, Option, Result}
 use Rattle.text.specs.Decoding.{NoCharacter}
 use Rattle.widths.specs.declared.clusters.ClusterAt.{ClusterAt}
 use Rattle.widths.specs.declared.clusters.Clusters.{Clusters}
+use Rattle.widths.specs.declared.clusters.NotUtf8.{NotUtf8}
 use Rattle.widths.specs.Fronts.{FrontCluster}
 
 -- the bytes of which no cluster has come yet
@@ -16,7 +17,8 @@ pub record Taken (w : ℕ → ℕ) (bs : List ℕ) (k : ClusterAt) (left : List 
   pub within : k.len ≤ length bs
   pub others : left ≡ drop k.len bs
 
--- what is taken: a cluster, or nothing where no character stands
-abbrev pub TakesCluster : (ℕ → ℕ) → List ℕ → Option ClusterAt → List ℕ → Type 0
-TakesCluster w bs None left = NoCharacter bs × (left ≡ bs)
-TakesCluster w bs (Some k) left = Taken w bs k left
+-- what is taken: a cluster, while there are bytes; where no character stands that is said, and nothing is left
+abbrev pub TakesCluster : (ℕ → ℕ) → List ℕ → Option (Result ClusterAt NotUtf8) → List ℕ → Type 0
+TakesCluster w bs None left = (bs ≡ []) × (left ≡ [])
+TakesCluster w bs (Some (Ok k)) left = Taken w bs k left
+TakesCluster w bs (Some (Err e)) left = (bs ≢ []) × NoCharacter bs × (left ≡ [])

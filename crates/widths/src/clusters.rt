@@ -1,5 +1,5 @@
 // Clusters: a character with the zero-width characters behind it.
-ghost use Rattle.std.specs.Prelude.{◌≡◌, ◌+◌, ◌^◌, ◌<◌, ◌≤◌, ◌↔◌, true, false, [], length, drop, IsTrue};
+ghost use Rattle.std.specs.Prelude.{◌≡◌, ◌+◌, ◌^◌, ◌<◌, ◌≤◌, true, false, length, drop};
 ghost use Rattle.text.specs.Characters.{is_control};
 ghost use Rattle.widths.specs.Clusters.{is_mark};
 ghost use Rattle.widths.specs.Fronts.{FrontMarks, NoMark, cluster_of, Clustered, Within};
@@ -68,7 +68,11 @@ pub fn cluster_at<W: WidthTable>(bytes: &[u8], at: usize) -> Option<ClusterAt>
     Some(cluster_of::<W>(first, marks))
 }
 
-// The clusters of some bytes, from the front on: they end where no UTF-8 character begins.
+// Bytes at whose front no UTF-8 character stands.
+#[derive(Clone, Copy, PartialEq, Eq, Debug)]
+pub struct NotUtf8;
+
+// The clusters of some bytes; where no UTF-8 character begins that is said, and nothing more comes.
 #[derive(Drop)]
 pub struct Clusters<'a, W> {
     rest: &'a [u8],
@@ -78,7 +82,7 @@ pub struct Clusters<'a, W> {
 impl<'a, W: WidthTable> Clusters<'a, W> {
     ghost use Rattle.widths.specs.Walks.{bytes_left};
 
-    // The clusters of some bytes.
+    // The clusters of some bytes, from their front on.
     pub fn new(bytes: &'a [u8]) -> Self
         ensures { bytes_left result ≡ bytes.now }
     {
@@ -87,28 +91,31 @@ impl<'a, W: WidthTable> Clusters<'a, W> {
             table: PhantomData,
         }
     }
-
-    // Whether every byte has come in a cluster.
-    pub fn is_done(&self) -> bool
-        ensures { IsTrue result ↔ (bytes_left self.now ≡ []) }
-    {
-        self.rest.is_empty()
-    }
 }
 
 impl<'a, W: WidthTable> Iterator for Clusters<'a, W> {
     ghost use Rattle.std.specs.Iterator.{at_most};
     ghost use Rattle.widths.specs.Walks.{bytes_left, TakesCluster};
 
-    type Item = ClusterAt;
+    type Item = Result<ClusterAt, NotUtf8>;
 
     ghost next_gives = { λ s r t. TakesCluster W.WidthTable.columns (bytes_left s) r (bytes_left t) };
 
     ghost remaining = { λ s. at_most (length (bytes_left s)) };
 
-    fn next(&mut self) -> Option<ClusterAt> {
-        let cluster = cluster_at::<W>(self.rest, 0)?;
-        self.rest = &self.rest[cluster.len..];
-        Some(cluster)
+    fn next(&mut self) -> Option<Result<ClusterAt, NotUtf8>> {
+        if self.rest.is_empty() {
+            return None;
+        }
+        match cluster_at::<W>(self.rest, 0) {
+            Some(cluster) => {
+                self.rest = &self.rest[cluster.len..];
+                Some(Ok(cluster))
+            }
+            None => {
+                self.rest = &[];
+                Some(Err(NotUtf8))
+            }
+        }
     }
 }

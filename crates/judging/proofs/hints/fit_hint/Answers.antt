@@ -5,8 +5,8 @@ use Rattle.judging.proofs.hints.fit_hint.Goals as goal
 
 pub returns-in-Some : goal.returns-in-Some
 returns-in-Some g c =
-    keeps-hint g.W.WidthTable.columns c.args.prompt c.args.size c.args.ends c.args.hint.now (option_map (λ x. x.now) c.get.result) c.get.ensures c.in-Some.layout c.in-Some.ensures
+    keeps-hint g.W.WidthTable.columns c.args.window.prompt c.args.window.size c.args.ends c.args.hint.now (option_map (λ x. x.now) c.get.result) c.get.ensures c.in-Some.layout c.in-Some.ensures
 
 pub returns-in-None : goal.returns-in-None
 returns-in-None g c =
-    drops-hint g.W.WidthTable.columns c.args.prompt c.args.size c.args.ends c.args.hint.now (option_map (λ x. x.now) c.get.result) c.get.ensures c.bare_layout.result (note_of c.clear.new.self) c.clear.ensures c.in-None.ensures c.bare_layout.ensures
+    drops-hint g.W.WidthTable.columns c.args.window.prompt c.args.window.size c.args.ends c.args.hint.now (option_map (λ x. x.now) c.get.result) c.get.ensures c.bare_layout.result (note_of c.clear.new.self) c.clear.ensures c.in-None.ensures c.bare_layout.ensures

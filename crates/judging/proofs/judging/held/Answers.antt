@@ -1,10 +1,14 @@
+use Rattle.std.proofs.Common.{◌≡◌, Err, rules}
 use Rattle.judging.proofs.Judgements.{holds, holds_not}
+use Rattle.text.specs.declared.refusal.Refusal.TheVariants.{Tall}
 use Rattle.judging.proofs.judging.held.Goals as goal
 
-pub returns-in-Some-line_layout : goal.returns-in-Some-line_layout
-returns-in-Some-line_layout g c =
-    holds g.W.WidthTable.columns c.args.prompt c.args.size c.args.ends c.in-Some.ends c.in-Some-line_layout.field-0 c.in-Some.is c.in-Some-line_layout.ensures
+pub returns-in_err-ok_or : goal.returns-in_err-ok_or
+returns-in_err-ok_or g c =
+    let refused : c.from_residual-in_err-ok_or.result ≡ Err Tall = search rules in
+    rw refused
+    (holds_not g.W.WidthTable.columns c.args.window.prompt c.args.window.size c.args.ends c.in_ok-ends.ends c.in_ok-ends.ensures.ok_part (rw c.in_err-ok_or.ensures.ok_part at c.line_layout.ensures))
 
-pub returns-in-None : goal.returns-in-None
-returns-in-None g c =
-    holds_not g.W.WidthTable.columns c.args.prompt c.args.size c.args.ends c.in-Some.ends c.in-Some.is c.in-None.ensures
+pub returns : goal.returns
+returns g c =
+    holds g.W.WidthTable.columns c.args.window.prompt c.args.window.size c.args.ends c.in_ok-ends.ends c.in_ok-ok_or.field-0 c.in_ok-ends.ensures.ok_part (rw c.in_ok-ok_or.ensures.ok_part at c.line_layout.ensures)
