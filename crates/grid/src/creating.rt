@@ -36,18 +36,7 @@ impl<W: Drop> Grid<W> {
     pub fn into_cells(self) -> Vec<Cell>
         ensures { result ≡ self.cells }
     {
-        let Grid {
-            cells,
-            depth: _,
-            size: _,
-            top: _,
-            row: _,
-            col: _,
-            join: _,
-            held: _,
-            parser: _,
-            widths: _,
-        } = self;
+        let Grid { cells, .. } = self;
         cells
     }
 }

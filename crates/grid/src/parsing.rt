@@ -106,7 +106,7 @@ impl<W: WidthTable> Grid<W> {
     fn in_character(&mut self, begun: Begun, byte: u8) -> Result<(), Full>
         ensures { Tries (step_in (area W.WidthTable.columns self.old) (Character begun.partial) byte) self.old self.new result }
     {
-        if begun.partial.low <= byte && byte <= begun.partial.high {
+        if (begun.partial.low..=begun.partial.high).contains(&byte) {
             self.continue_character(begun, byte)
         } else {
             self.begin_anew(byte)

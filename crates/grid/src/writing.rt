@@ -20,6 +20,7 @@ impl<W: WidthTable> Grid<W> {
         ensures count { result ≡ fitting (area W.WidthTable.columns self.old) self.old.depth bytes.now (shown self.old) }
         ensures drawn { Does (feed (area W.WidthTable.columns self.old) (take result bytes.now)) self.old self.new }
     {
+        // a loop: the closure of `position` would change the grid while it searches, and is no plainer
         for (i, byte) in bytes.iter().enumerate() {
             if let Err(Full) = self.step(*byte) {
                 return i;
@@ -52,7 +53,7 @@ impl<W: WidthTable> Terminal for Grid<W> {
 
     fn write(&mut self, bytes: &[u8]) -> WriteAnswer {
         let count = self.take_fitting(bytes);
-        if bytes.len() > 0 && count == 0 {
+        if !bytes.is_empty() && count == 0 {
             Err(WriteError::Down)
         } else {
             Ok(count)
