@@ -1,5 +1,4 @@
 pub mod Parts
 pub mod Papers
 pub mod Rows
-pub mod Doing
-pub mod Puts
+pub mod Writes

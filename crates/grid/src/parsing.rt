@@ -54,6 +54,7 @@ impl<W: WidthTable> Grid<W> {
 
 impl<W: WidthTable> Grid<W> {
     // A byte where nothing is unfinished.
+    #[tactic(auto, unfolding(screen::specs::Bytes::begin, screen::specs::Bytes::step_in))]
     fn on_ground(&mut self, byte: u8) -> Result<(), Full>
         ensures { Tries (step_in (area W.WidthTable.columns self.old) Ground byte) self.old self.new result }
     {

@@ -92,6 +92,7 @@ impl<W: WidthTable> Grid<W> {
     }
 
     // A whole character.
+    #[tactic(auto, unfolding(screen::specs::Screen::put_pen))]
     pub(crate) fn put(&mut self, c: char) -> Result<(), Full>
         ensures { Tries (put (area W.WidthTable.columns self.old) c) self.old self.new result }
     {

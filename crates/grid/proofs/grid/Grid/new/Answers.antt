@@ -5,13 +5,6 @@ use Rattle.grid.specs.Steps.{drawn}
 use Rattle.grid.proofs.Papers.{paper-blank}
 use Rattle.grid.proofs.grid.Grid.new.Goals as goal
 
-pub returns-then-depth-from : goal.returns-then-depth-from
-returns-then-depth-from g c =
-    let size = c.args.size in
-    let wide : 0 < size.cols = omega (arith, size.wide) in
-    let few : vec_len c.args.cells / size.cols < size.rows = rw (sym c.len.ensures, sym (c.from-cols.ensures ∙ c.cols.ensures), sym (c.from.ensures ∙ c.rows.ensures)) c.if-depth-from.true in
-    (refl, (div-lt_iff_lt-mul wide).0 few)
-
 pub returns : goal.returns
 returns g c =
     let cols = c.args.size.cols in
