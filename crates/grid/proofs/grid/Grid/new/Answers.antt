@@ -1,4 +1,4 @@
-use Rattle.std.proofs.Common.{◌/◌, ◌<◌, rules, vec_len, sym, refl, ap, ◌∙◌, div-lt_iff_lt-mul, arith}
+use Rattle.std.proofs.Common.{◌/◌, rules, refl, ap, ◌∙◌}
 use Rattle.screen.specs.Screen.{blank_screen}
 use Rattle.grid.specs.Meaning.{paper_of}
 use Rattle.grid.specs.Steps.{drawn}
