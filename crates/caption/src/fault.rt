@@ -1,4 +1,5 @@
 // Why the program ends with status 1.
+use crate::options::Valued;
 use std::alloc::{AllocError, AllocFailed};
 use std::{fmt, io};
 
@@ -7,9 +8,9 @@ pub(crate) enum Fault {
     // no command, or one that is unknown
     Command,
     UnknownOption(String),
-    MissingValue(String),
+    MissingValue(Valued),
     // an option's value, which is no number from 0 to 65,535
-    Number(String, String),
+    Number(Valued, String),
     Table(String),
     Size(u16, u16),
     Prompt,
@@ -25,8 +26,10 @@ impl fmt::Display for Fault {
                 f,
                 "unknown option `{name}`; `caption --help` lists them"
             ),
-            Fault::MissingValue(name) => write!(f, "`{name}` needs a value"),
-            Fault::Number(name, value) => write!(f, "`{name}` needs a number, not `{value}`"),
+            Fault::MissingValue(option) => write!(f, "`{option}` needs a value"),
+            Fault::Number(option, value) => {
+                write!(f, "`{option}` needs a number, not `{value}`")
+            }
             Fault::Table(value) => write!(f, "`--table` is `latin` or `eastern`, not `{value}`"),
             Fault::Size(columns, rows) => write!(
                 f,

@@ -1,18 +1,17 @@
 //! `caption`: prepared captions held against the screen that they will be typed on.
 #![tactic(auto)]
 
-mod captions;
 mod fault;
 mod help;
 mod options;
 mod report;
 
 use fault::Fault;
-use options::{Command, Table, read_command};
+use options::{Command, read_command};
 use report::preview_script;
 use std::io::Read;
 use std::process::ExitCode;
-use widths::tables::{Eastern, Latin};
+use widths::tables::{Eastern, Latin, Table};
 
 // Reads the whole script from standard input.
 fn read_script(rt: &HostRuntime) -> Result<Vec<u8>, Fault> {
@@ -24,11 +23,11 @@ fn read_script(rt: &HostRuntime) -> Result<Vec<u8>, Fault> {
 fn run(rt: &HostRuntime) -> Result<(), Fault> {
     match read_command(rt)? {
         Command::Help => rt.print(help::TEXT)?,
-        Command::Preview(options) => {
+        Command::Preview(size, options) => {
             let script = read_script(rt)?;
             match options.table {
-                Table::Latin => preview_script(rt, Latin, &options, script.as_slice())?,
-                Table::Eastern => preview_script(rt, Eastern, &options, script.as_slice())?,
+                Table::Latin => preview_script(rt, Latin, size, &options, script.as_slice())?,
+                Table::Eastern => preview_script(rt, Eastern, size, &options, script.as_slice())?,
             }
         }
     }

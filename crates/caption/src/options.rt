@@ -1,64 +1,79 @@
 // The program's arguments.
 use crate::fault::Fault;
 use std::alloc::Global;
-use std::env;
+use std::{env, fmt};
 use terminal::size::Size;
-use text::refusal::Refusal;
 use text::styled::check_styled;
-
-#[derive(Clone, Copy)]
-pub(crate) enum Table {
-    Latin,
-    Eastern,
-}
+use widths::tables::Table;
 
 // How captions are previewed.
 #[derive(Drop)]
 pub(crate) struct Options {
-    pub(crate) size: Size,
+    columns: u16,
+    rows: u16,
     pub(crate) table: Table,
     pub(crate) prompt: String,
     pub(crate) brackets: bool,
 }
 
+// What the program is asked for.
 #[derive(Drop)]
 pub(crate) enum Command {
     Help,
-    Preview(Options),
+    // a window and the other options
+    Preview(Size, Options),
 }
 
-// What has been read of the options.
-#[derive(Drop)]
-struct Draft {
-    columns: u16,
-    rows: u16,
-    table: Table,
-    prompt: String,
-    brackets: bool,
+// The options that have a value.
+#[derive(Clone, Copy)]
+pub(crate) enum Valued {
+    Columns,
+    Rows,
+    Table,
+    Prompt,
+}
+
+impl Valued {
+    // The option that an argument names.
+    fn named(name: &str) -> Option<Valued> {
+        Some(match name {
+            "--columns" => Valued::Columns,
+            "--rows" => Valued::Rows,
+            "--table" => Valued::Table,
+            "--prompt" => Valued::Prompt,
+            _ => return None,
+        })
+    }
+}
+
+impl fmt::Display for Valued {
+    fn fmt<W: fmt::Write>(&self, f: &mut fmt::Formatter<W>) -> fmt::Result {
+        f.write_str(match self {
+            Valued::Columns => "--columns",
+            Valued::Rows => "--rows",
+            Valued::Table => "--table",
+            Valued::Prompt => "--prompt",
+        })
+    }
 }
 
 const MAX_PROMPT: usize = 512;
 
 // The number that an option's value says.
-fn number_of(name: String, value: String) -> Result<u16, Fault> {
-    match value.as_str().parse::<u16>() {
-        Ok(number) => Ok(number),
-        Err(_) => Err(Fault::Number(name, value)),
-    }
+fn number_of(option: Valued, value: String) -> Result<u16, Fault> {
+    value
+        .parse::<u16>()
+        .map_err(|_| Fault::Number(option, value))
 }
 
 // The table that an option's value says.
 fn table_of(value: String) -> Result<Table, Fault> {
-    match value.as_str() {
-        "latin" => Ok(Table::Latin),
-        "eastern" => Ok(Table::Eastern),
-        _ => Err(Fault::Table(value)),
-    }
+    value.parse::<Table>().map_err(|_| Fault::Table(value))
 }
 
-impl Draft {
-    fn new(heap: Global) -> Result<Draft, Fault> {
-        Ok(Draft {
+impl Options {
+    fn new(heap: Global) -> Result<Options, Fault> {
+        Ok(Options {
             columns: 40,
             rows: 6,
             table: Table::Latin,
@@ -68,84 +83,62 @@ impl Draft {
     }
 
     // One option that has a value.
-    fn set(&mut self, name: String, value: String) -> Result<(), Fault> {
-        match name.as_str() {
-            "--columns" => self.columns = number_of(name, value)?,
-            "--rows" => self.rows = number_of(name, value)?,
-            "--table" => self.table = table_of(value)?,
-            "--prompt" => self.prompt = value,
-            _ => return Err(Fault::UnknownOption(name)),
+    fn set(&mut self, option: Valued, value: String) -> Result<(), Fault> {
+        match option {
+            Valued::Columns => self.columns = number_of(option, value)?,
+            Valued::Rows => self.rows = number_of(option, value)?,
+            Valued::Table => self.table = table_of(value)?,
+            Valued::Prompt => self.prompt = value,
         }
         Ok(())
     }
 
-    // The options, once size and prompt are found possible.
-    fn finish(self) -> Result<Options, Fault> {
-        let Draft {
-            columns,
-            rows,
-            table,
-            prompt,
-            brackets,
-        } = self;
-        let size = match Size::new(columns, rows) {
-            Ok(size) => size,
-            Err(_) => return Err(Fault::Size(columns, rows)),
-        };
-        if prompt.len() > MAX_PROMPT || check_styled(prompt.as_bytes()).is_err() {
+    // The window, once size and prompt are found possible.
+    fn window(&self) -> Result<Size, Fault> {
+        let size = Size::new(self.columns, self.rows).map_err(|_| Fault::Size(
+            self.columns,
+            self.rows,
+        ))?;
+        if self.prompt.len() > MAX_PROMPT {
             return Err(Fault::Prompt);
         }
-        Ok(Options {
-            size,
-            table,
-            prompt,
-            brackets,
-        })
+        check_styled(self.prompt.as_bytes()).map_err(|_| Fault::Prompt)?;
+        Ok(size)
     }
 }
 
-// Whether an option takes a value.
-fn takes_value(name: &str) -> bool {
-    matches!(name, "--columns" | "--rows" | "--table" | "--prompt")
-}
-
-// The options behind `preview`; none where help is asked.
-fn read_options(heap: Global, args: env::Args) -> Result<Option<Options>, Fault> {
-    let mut draft = Draft::new(heap)?;
-    let mut waiting: Option<String> = None;
+// What the options behind `preview` ask for.
+fn read_options(heap: Global, args: env::Args) -> Result<Command, Fault> {
+    let mut options = Options::new(heap)?;
+    let mut waiting: Option<Valued> = None;
     for arg in args {
-        if let Some(name) = waiting.take() {
-            draft.set(name, arg)?;
-        } else if takes_value(arg.as_str()) {
-            waiting = Some(arg);
-        } else {
+        if let Some(option) = waiting.take() {
+            options.set(option, arg)?;
+            continue;
+        }
+        waiting = Valued::named(arg.as_str());
+        if waiting.is_none() {
             match arg.as_str() {
-                "--help" => return Ok(None),
-                "--brackets" => draft.brackets = true,
+                "--help" => return Ok(Command::Help),
+                "--brackets" => options.brackets = true,
                 _ => return Err(Fault::UnknownOption(arg)),
             }
         }
     }
-    match waiting {
-        Some(name) => Err(Fault::MissingValue(name)),
-        None => Ok(Some(draft.finish()?)),
+    if let Some(option) = waiting {
+        return Err(Fault::MissingValue(option));
     }
+    Ok(Command::Preview(options.window()?, options))
 }
 
 // The command that the arguments say.
 pub(crate) fn read_command(rt: &HostRuntime) -> Result<Command, Fault> {
-    let heap = rt.alloc();
     let mut args = env::args(rt)?;
     let _ = args.next();
-    let Some(command) = args.next() else {
-        return Err(Fault::Command);
-    };
+    let command = args.next().ok_or(Fault::Command)?;
     match command.as_str() {
         "--help" => Ok(Command::Help),
-        "preview" => match read_options(heap, args)? {
-            Some(options) => Ok(Command::Preview(options)),
-            None => Ok(Command::Help),
-        },
+        "preview" => read_options(rt.alloc(), args),
         _ => Err(Fault::Command),
     }
 }
