@@ -55,10 +55,3 @@ module _ (bs : List ℕ) where
 -- the character that stands at the front is the one that is found there
 pub front_same : (bs rest : List ℕ) (c : ℕ) (d : Decoded) → Front bs d → bs ≡ encode c ++ rest → (d.code ≡ c) × (drop d.len bs ≡ rest)
 front_same bs rest c d f e = encode_same d.code c (drop d.len bs) rest (sym f.bytes ∙ e)
-
-pub decoded-is : (bs rest : List ℕ) (c : ℕ) (r : Option Decoded) → scalar c ≡ true → bs ≡ encode c ++ rest → Decodes bs r → r ≡ Some (record { code = c; len = length (encode c) })
-decoded-is bs rest c None s e n = absurd (n c rest s e)
-decoded-is bs rest c (Some d) s e f =
-    let k : d.code ≡ c = (front_same bs rest c d f e).0 in
-    let l : d.len ≡ length (encode c) = f.len ∙ ap (λ m. length (encode m)) k in
-    λ i. Some (record { code = k i; len = l i })

@@ -17,9 +17,6 @@ module _ (bs : List ℕ) (i : ℕ) where
     characters = λ u. ((λ e. let b = d.0 e in (b.0, IsUtf8-take bs i u b)), λ p. d.1 (IsCharBoundary-from_take bs i u p.0 p.1));
   }
 
-  pub place-past : length bs ≤ i → Answers (eqb i (length bs))
-  place-past h = answers (eqb i (length bs)) ((λ e. (omega (arith, eqb-true i (length bs) e), λ l. absurd (omega arith))), λ b. eq-eqb i (length bs) (omega (arith, b.0)))
-
   pub place-within : i < length bs → (r : Bool) → Decides r (Follows (get_or bs i 0)) → Answers (not r)
   place-within h r d = answers (not r) (Decides-like (not r)
       (λ n. (omega arith, λ _ l. ⊎_elim (λ k. absurd (n (l, k))) (λ k. k) (cases_lt (get_or bs i 0) 192)))

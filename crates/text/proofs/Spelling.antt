@@ -32,16 +32,8 @@ spells-append xs ys cs ds s t = (all-good-append cs ds s.0 t.0, encodes-append c
 pub spells-same : (bs cs ds : List ℕ) → Spells bs cs → Spells bs ds → cs ≡ ds
 spells-same bs cs ds s t = encodes_same cs ds (s.1 ∙ sym t.1)
 
-pub spells-char : (c : ℕ) → Good c → Spells (encode c) (c ∷ [])
-spells-char c g = ((g, tt), append-nil (encode c))
-
 pub good-text-append : (xs ys : List ℕ) → GoodText xs → GoodText ys → GoodText (xs ++ ys)
 good-text-append xs ys s t = (s.0 ++ t.0, spells-append xs ys s.0 t.0 s.1 t.1)
-
--- a good text that is not empty begins with a good character, and goes on as a good text
-pub good-text-begins : (bs : List ℕ) → GoodText bs → 0 < length bs → (c : ℕ) × (rest : List ℕ) × Good c × (bs ≡ encode c ++ rest) × GoodText rest
-good-text-begins bs ([], s) h = absurd (omega (arith, ap length s.1))
-good-text-begins bs (c ∷ cs, s) h = (c, encodes cs, s.0.0, sym s.1, (cs, (s.0.1, refl)))
 
 pub good-text-past : (c : ℕ) (rest : List ℕ) → GoodText (encode c ++ rest) → Good c × GoodText rest
 good-text-past c rest (cs, s) =

@@ -91,24 +91,6 @@ styled-style {bs} {cs} s ps rest h e = by (styled-begins s)
     by (character k) = absurd (good-not-esc k.code k.good (style-char ps k.code rest k.rest (sym e ∙ k.bytes)))
     by (sequence k) = subst (λ l. Styled l cs) (style-same k.parameters ps k.rest rest k.plainly h (sym k.bytes ∙ e)).1 k.styled
 
--- a byte 27 at the front begins a style sequence
-pub styled-esc : {bs cs : List ℕ} → Styled bs cs → get_or bs 0 0 ≡ 27 → Style bs cs
-styled-esc {bs} {cs} s e = by (styled-begins s)
-  where
-    by : Begins bs cs → Style bs cs
-    by (nowhere p q) = let z : get_or bs 0 0 ≡ 0 = ap (λ l. get_or l 0 0) p in absurd (omega arith)
-    by (character k) = absurd (good-lead k.code k.rest k.good (ap (λ l. get_or l 0 0) (sym k.bytes) ∙ e))
-    by (sequence k) = k
-
--- any other byte begins a good character
-pub styled-other : {bs cs : List ℕ} → Styled bs cs → 0 < length bs → (get_or bs 0 0 ≡ 27 → ⊥) → Character bs cs
-styled-other {bs} {cs} s l n = by (styled-begins s)
-  where
-    by : Begins bs cs → Character bs cs
-    by (nowhere p q) = absurd (omega (arith, ap length p))
-    by (character k) = k
-    by (sequence k) = absurd (n (ap (λ l. get_or l 0 0) k.bytes))
-
 styled-nil : {bs cs : List ℕ} → Styled bs cs → bs ≡ [] → cs ≡ []
 styled-nil {bs} {cs} s e = by (styled-begins s)
   where

@@ -110,10 +110,6 @@ copied_more bs rest shown after old new n c f h =
       kept = drop-put_mid n part new shown (n + length shown) (omega arith) (omega arith) (omega arith) ∙ sym (drop-drop (length shown) n new) ∙ ap (drop (length shown)) c.kept ∙ drop-drop (length shown) n old;
     }
 
-pub copied_all : (bs rest old new : List ℕ) (n : ℕ) → CopiedTo bs rest old new n → rest ≡ [] → Copied bs old new n
-copied_all bs rest old new n c e =
-    record { characters = c.walked.characters; styled = styled-all bs rest n c.walked e; count = c.walked.shown; written = c.written; kept = c.kept }
-
 -- a visible text with the refusals of a prompt
 pub prompt-shown : (max : ℕ) (bs old new : List ℕ) (r : Result ℕ Refusal) → length bs ≤ max → length old ≡ max → GivesVisible bs old new r → ShowsPrompt max bs old new (result_or r (Err Prompt))
 prompt-shown max bs old new (Ok n) h e k = (h, omega (arith, k.count, styled-longer k.styled), k)

@@ -23,13 +23,6 @@ pub enum Refusal {
 }
 
 impl Refusal {
-    // The refusal's number, 1 to 7.
-    pub fn number(self) -> u8
-        ensures { result ≡ refusal_number self }
-    {
-        u8::from(self)
-    }
-
     // The refusal's word.
     pub fn word(self) -> &'static str
         ensures { result.now ≡ refusal_word self }

@@ -19,6 +19,7 @@ pub fn check_styled(bytes: &[u8]) -> Result<usize, Refusal>
 }
 
 // Writes the visible text of a good styled text to the front of `out`, and gives its length.
+// A place with a length beside it: no heap below the programs, so the caller lends the place.
 pub fn visible_text(bytes: &[u8], out: &mut [u8]) -> Result<usize, Refusal>
     ensures { GivesVisible bytes.now out.old out.new result }
 {
