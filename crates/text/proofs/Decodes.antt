@@ -1,11 +1,11 @@
 -- Bytes that spell a character, and bytes that spell none. Assumes nothing.
-use Rattle.std.proofs.Common.{◌≡◌, ℕ, ◌<◌, ◌≤◌, true, List, [], ◌∷◌, ◌++◌, length, get_or, take, drop, Some, None, Option, IsUtf8, sym, refl, ap, ◌∙◌, subst, ⊎_elim, arith, length-append}
+use Rattle.std.proofs.Common.{◌≡◌, ℕ, ◌<◌, ◌≤◌, true, List, [], ◌∷◌, ◌++◌, length, get_or, take, drop, Some, None, Option, IsUtf8, sym, refl, ap, ◌∙◌, subst, ⊎_elim, arith, length-append, length-drop}
 use lib.Utf8.{encode, scalar}
 use Rattle.std.proofs.lemmas.Bool.{cases_lt}
 use Rattle.std.proofs.lemmas.List.{take_at}
 use Rattle.std.proofs.lemmas.Str.{encode_same, length-encode, len_utf8_bounds, IsUtf8-encode}
 use Rattle.std.proofs.str.Laws.{one, two, three, four}
-use Rattle.text.specs.Decoding.{Decodes, Front, Leads, NoCharacter}
+use Rattle.text.specs.Decoding.{Decodes, Front, Leads, NoCharacter, Within}
 use Rattle.text.specs.declared.decode.Decoded.{Decoded}
 
 -- the bytes of a character, told by the first
@@ -55,3 +55,11 @@ module _ (bs : List ℕ) where
 -- the character that stands at the front is the one that is found there
 pub front_same : (bs rest : List ℕ) (c : ℕ) (d : Decoded) → Front bs d → bs ≡ encode c ++ rest → (d.code ≡ c) × (drop d.len bs ≡ rest)
 front_same bs rest c d f e = encode_same d.code c (drop d.len bs) rest (sym f.bytes ∙ e)
+
+-- a character that is found within some bytes ends within them
+pub char-within : (bs : List ℕ) (i : ℕ) (r : Option Decoded) → i ≤ length bs → Decodes (drop i bs) r → Within i (length bs) r
+char-within bs i None h d = tt
+char-within bs i (Some d) h f =
+    let one = len_utf8_bounds d.code in
+    let long = length-encode d.code in
+    (omega (arith, f.len), omega (arith, f.len), omega (arith, f.len, ap length f.bytes, length-append (encode d.code) (drop d.len (drop i bs)), length-drop i bs))

@@ -1,6 +1,6 @@
 -- Good texts: one list of characters each, put together and taken apart. Assumes nothing.
-use Rattle.std.proofs.Common.{◌≡◌, ℕ, ◌<◌, Bool, true, false, Decides, List, [], ◌∷◌, ◌++◌, length, get_or, take, drop, None, IsUtf8, sym, refl, ap, ◌∙◌, subst, ⊎_elim, true≢false, append-nil, arith, length-append, take-append-drop}
-use lib.Utf8.{scalar, scalars, encode, encodes}
+use Rattle.std.proofs.Common.{◌≡◌, ℕ, ◌<◌, Bool, true, false, Decides, List, [], ◌∷◌, ◌++◌, length, get_or, take, drop, None, IsUtf8, sym, refl, ◌∙◌, subst, ⊎_elim, true≢false, arith, length-append, take-append-drop}
+use lib.Utf8.{scalar, scalars, encode}
 use Rattle.std.proofs.lemmas.Str.{char_from_byte, cons_from_encodes, encode_same, encodes-append, encodes_same, length-encode, IsUtf8-drop, IsUtf8-take, len_utf8_bounds}
 use Rattle.std.proofs.lemmas.Bool.{and_from}
 use Rattle.std.proofs.lemmas.Bool.Decides.{not_from_Decides}

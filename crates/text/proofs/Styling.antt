@@ -1,11 +1,11 @@
 -- Good styled texts: what each shows, put together and taken apart. Assumes nothing.
-use Rattle.std.proofs.Common.{◌≡◌, ℕ, ◌<◌, ◌≤◌, true, false, List, [], ◌∷◌, ◌++◌, length, get_or, sym, refl, ap, ◌∙◌, subst, true≢false, append_assoc, arith, length-append}
+use Rattle.std.proofs.Common.{◌≡◌, ℕ, ◌≤◌, true, false, List, [], ◌∷◌, ◌++◌, length, sym, refl, ap, ◌∙◌, subst, true≢false, append_assoc, arith, length-append}
 use lib.Utf8.{encode, encodes}
 use Rattle.std.proofs.lemmas.Bool.{and_parts}
 use Rattle.std.proofs.lemmas.Str.{encode_same, char_from_byte}
 use Rattle.text.specs.Characters.{Good, AllGood}
 use Rattle.text.specs.Texts.{Spells, is_plain, plain, style, Styled, ends, shows, dyes}
-use Rattle.text.proofs.Spelling.{encode-some, good-lead, good-not-esc}
+use Rattle.text.proofs.Spelling.{encode-some, good-not-esc}
 
 -- a text that begins with a good character, and one that begins with a style sequence
 pub record Character (bs cs : List ℕ) : Type 0 where

@@ -6,7 +6,7 @@ use Rattle.std.proofs.lemmas.List.{take_at, drop-drop}
 use Rattle.std.proofs.lemmas.Slice.{take-put_mid, drop-put_mid}
 use Rattle.std.proofs.lemmas.Str.{encodes-append, length-encode, len_utf8_bounds}
 use Rattle.std.specs.Result.{result_or}
-use Rattle.text.specs.Checks.{Copied, GivesVisible, ShowsPrompt}
+use Rattle.text.specs.Checks.{GivesVisible, ShowsPrompt}
 use Rattle.text.specs.Pieces.{GoodFront, PieceFront, VisibleFits}
 use Rattle.text.specs.Texts.{plain, style, Styled, ends, shows, dyes, StyledText}
 use Rattle.text.specs.declared.decode.Decoded.{Decoded}

@@ -37,8 +37,7 @@ pub fn char_at(bytes: &[u8], at: usize) -> Option<Decoded>
 
 // The character that begins the bytes.
 pub(crate) fn first_char(bytes: &[u8]) -> Option<Decoded>
-    ensures decodes { Decodes bytes.now result }
-    ensures within { Within 0 (length bytes.now) result }
+    ensures { Decodes bytes.now result }
 {
     let len = char_len(*bytes.first()?);
     let text = from_utf8(bytes.get(..len)?).ok()?;

@@ -2,7 +2,6 @@
 ghost use Rattle.std.specs.Prelude.{◌≤◌, length, take, IsUtf8, Decides};
 ghost use Rattle.std.specs.Str.{IsCharBoundary};
 ghost use Rattle.text.specs.Checks.{ChecksText, ChecksWithin};
-ghost use Rattle.text.specs.Decoding.{Within};
 ghost use Rattle.text.specs.Pieces.{GoodFront};
 
 use crate::decode::{Decoded, first_char, is_continuation, is_good};
@@ -43,8 +42,7 @@ pub fn is_boundary(bytes: &[u8], at: usize) -> bool
 
 // The character that begins the bytes, if it is one that a text may hold.
 pub(crate) fn good_char(bytes: &[u8]) -> Option<Decoded>
-    ensures good { GoodFront bytes.now result }
-    ensures within { Within 0 (length bytes.now) result }
+    ensures { GoodFront bytes.now result }
 {
     let found = first_char(bytes)?;
     is_good(found.code).then_some(found)

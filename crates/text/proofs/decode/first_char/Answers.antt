@@ -11,19 +11,19 @@ refused : {A E R : Type 0} (P : A → Type 0) (Q : E → Type 0) (r : Result A E
 refused P Q (Ok x) e h = absurd (false≢true e)
 refused P Q (Err x) e h = h.0
 
-pub returns-in_err-first-clause-decodes : goal.returns-in_err-first-clause-decodes
-returns-in_err-first-clause-decodes c =
+pub returns-in_err-first : goal.returns-in_err-first
+returns-in_err-first c =
     let h = c.in_err-first.ensures.item in
     rw c.from_residual.ensures (no-lead c.args.bytes.now (omega (arith, h)))
 
-pub returns-in_err-get-clause-decodes : goal.returns-in_err-get-clause-decodes
-returns-in_err-get-clause-decodes c =
+pub returns-in_err-get : goal.returns-in_err-get
+returns-in_err-get c =
     let h = c.in_err-get.ensures.lookup in
     let l = subst (λ b. Leads b c.char_len-len.result) (c.in_ok-first.ensures.item.4 (omega arith) 0) c.char_len-len.ensures in
     rw c.from_residual-in_err-get.ensures (no-part c.args.bytes.now c.char_len-len.result l (omega (arith, h)))
 
-pub returns-in_err-text-clause-decodes : goal.returns-in_err-text-clause-decodes
-returns-in_err-text-clause-decodes c =
+pub returns-in_err-text : goal.returns-in_err-text
+returns-in_err-text c =
     let n = c.char_len-len.result in
     let h = refused _ _ c.from_utf8.result c.in_err-text.ensures.variant c.from_utf8.ensures.cases in
     let l = subst (λ b. Leads b n) (c.in_ok-first.ensures.item.4 (omega arith) 0) c.char_len-len.ensures in

@@ -1,4 +1,6 @@
 -- `split_piece` meets its contract. Assumes nothing.
+use Rattle.std.proofs.Common.{Some, arith}
+use Rattle.text.proofs.Decodes.{char-within}
 use Rattle.text.proofs.Walks.{piece-style, piece-char, no-piece}
 use Rattle.text.proofs.styled.split_piece.Goals as goal
 
@@ -6,7 +8,12 @@ pub returns-in-Some : goal.returns-in-Some
 returns-in-Some c = let h = c.in-Some.ensures in piece-style _ h.0 _ h.1 h.2
 
 pub returns-in_err-found : goal.returns-in_err-found
-returns-in_err-found c = rw c.from_residual.ensures (no-piece c.args.bytes.now c.in_default.ensures c.in_err-found.ensures.good)
+returns-in_err-found c = rw c.from_residual.ensures (no-piece c.args.bytes.now c.in_default.ensures c.in_err-found.ensures)
 
 pub returns : goal.returns
-returns c = let e = c.split_at.ensures.front in let f = c.split_at.ensures.back in rw (e, f) (piece-char c.args.bytes.now c.in_ok-found.found c.in_ok-found.ensures.good)
+returns c = let e = c.split_at.ensures.front in let f = c.split_at.ensures.back in rw (e, f) (piece-char c.args.bytes.now c.in_ok-found.found c.in_ok-found.ensures)
+
+pub split_at-requires : goal.split_at-requires
+split_at-requires c =
+    let h = char-within c.args.bytes.now 0 (Some c.in_ok-found.found) (omega arith) c.in_ok-found.ensures.1 in
+    omega (arith, h.2)
