@@ -7,6 +7,7 @@ use Rattle.preview.specs.Previewing.{EndsAt, HeightFine, PromptFine, Refuses}
 use Rattle.screen.proofs.Counting.{block-place}
 use Rattle.screen.specs.Places.{place_of}
 use Rattle.screen.specs.Screen.{Geometry, block, place_row}
+use Rattle.std.proofs.lemmas.Option.{same_Some}
 use Rattle.std.specs.Str.{chars}
 use Rattle.terminal.specs.Windows.{geometry}
 use Rattle.terminal.specs.declared.size.Size.{Size}
@@ -37,11 +38,8 @@ module _ (w : ℕ → ℕ) (narrow : (c : ℕ) → w c ≤ 2) (z : Size) (prompt
 
   pub end-place-is : GoodText caption → length caption ≤ 4096 → (r : Option Position) (p : Position) → EndsAt w cols (take (n - 0) new) caption r → r ≡ Some p → (cs : List ℕ) → Styled prompt cs → p ≡ place_of (geometry w z) (block (geometry w z) (cs ++ chars caption))
   end-place-is g l r p e is cs st =
-      same p (place_of (geometry w z) (block (geometry w z) (k.characters ++ chars caption))) (sym is ∙ ended g l r e)
+      same_Some p (place_of (geometry w z) (block (geometry w z) (k.characters ++ chars caption))) (sym is ∙ ended g l r e)
       ∙ ap (λ (x : List ℕ). place_of (geometry w z) (block (geometry w z) (x ++ chars caption))) (styled-same k.styled st)
-    where
-      same : (x y : Position) → Some x ≡ Some y → x ≡ y
-      same x y q = cc
 
 pub refuses-tall : (d : Geometry) (prompt caption cs : List ℕ) → PromptFine prompt → GoodText caption → length caption ≤ 4096 → Styled prompt cs → d.rows ≤ place_row d (block d (cs ++ chars caption)) → Refuses d prompt caption (Some refusal.Tall)
 refuses-tall d prompt caption cs p g l st h = inr (p, inr (g, inr (l, inl ((λ f. let k = f cs st in omega arith), refl))))
