@@ -3,10 +3,9 @@ use Rattle.std.specs.Prelude.{◌≡◌, ℕ, ◌+◌, ◌-◌, ◌^◌, ◌≤�
 use Rattle.std.specs.declared.alloc.Global.{Global}
 use Rattle.terminal.specs.Answers.{WriteAnswer, taken}
 use Rattle.faults.specs.declared.fault.Fault.{Fault}
-use Rattle.faults.specs.declared.fault.Course.{Course}
-use Rattle.faults.specs.declared.fault.Course.TheVariants.{Pass, Answer}
+use Rattle.std.specs.declared.ops.ControlFlow.TheVariants.{Continue, Break}
 use Rattle.faults.specs.declared.faulty.Faulty.{Faulty}
-use Rattle.faults.specs.Faults.{answer_at, course_of}
+use Rattle.faults.specs.Faults.{Course, answer_at, course_of}
 
 -- no call has come yet
 pub record Begun {T : Type 0} (lowest : T) (planned : Vec Fault Global) (kept : Vec ℕ Global) (f : Faulty T) : Type 0 where
@@ -31,8 +30,8 @@ pub record Roomy (before : Vec ℕ Global) (n room : ℕ) (after : Vec ℕ Globa
 
 -- the first bytes were offered to the terminal below, which answered so; or nothing was
 abbrev pub Follows : {T : Type 0} → (T → List ℕ → WriteAnswer → T → Type 0) → Course → T → List ℕ → WriteAnswer → T → Type 0
-Follows answered (Pass n) s bytes a t = answered s (take n bytes) a t
-Follows answered (Answer x) s bytes a t = (a ≡ x) × (t ≡ s)
+Follows answered (Continue n) s bytes a t = answered s (take n bytes) a t
+Follows answered (Break x) s bytes a t = (a ≡ x) × (t ≡ s)
 
 -- what becomes of the next call, with room for so many bytes
 abbrev pub next_course : {T : Type 0} → Faulty T → List ℕ → ℕ → Course

@@ -6,7 +6,8 @@ ghost use Rattle.faults.specs.Faults.{answer_at};
 ghost use Rattle.faults.specs.Courses.{course-fits, course-worked, follows-fixed};
 ghost use Rattle.std.proofs.Common.{rules};
 
-use crate::fault::{Course, Fault, answer_at, course_of};
+use crate::fault::{Fault, answer_at, course_of};
+use std::ops::ControlFlow;
 use terminal::size::Size;
 use terminal::terminal::{Terminal, WriteAnswer, taken};
 
@@ -25,10 +26,7 @@ pub struct Faulty<T> {
 fn make_room(log: &mut Vec<u8>, count: usize) -> usize
     ensures { Roomy log.old count result log.new }
 {
-    match log.reserve(count) {
-        Ok(()) => count,
-        Err(_) => 0,
-    }
+    log.reserve(count).map_or(0, |()| count)
 }
 
 impl<T> Faulty<T> {
@@ -86,10 +84,10 @@ impl<T: Terminal> Terminal for Faulty<T> {
         let fault = answer_at(self.faults.as_slice(), call);
         let room = make_room(&mut self.log, bytes.len());
         match course_of(fault, bytes.len(), room) {
-            Course::Answer(answer) => answer,
-            Course::Pass(count) => {
-                let answer = self.below.write(&bytes[0..count]);
-                let _ = self.log.extend_from_slice(&bytes[0..taken(answer)]);
+            ControlFlow::Break(answer) => answer,
+            ControlFlow::Continue(count) => {
+                let answer = self.below.write(&bytes[..count]);
+                let _ = self.log.extend_from_slice(&bytes[..taken(answer)]);
                 answer
             }
         }

@@ -18,7 +18,7 @@ impl fmt::Display for BrokenAct {
     ghost output = { λ b. Some (broken_text b) };
 
     fn fmt<W: fmt::Write>(&self, f: &mut fmt::Formatter<W>) -> fmt::Result {
-        let code = self.write.fault.number();
+        let code = u8::from(self.write.fault);
         let word = self.write.fault.word();
         let number = self.number;
         let taken = self.write.taken;

@@ -4,8 +4,9 @@ ghost use Rattle.std.specs.Prelude.{IfOk, IsOkUnless};
 use crate::error::Wrong;
 use crate::fields::Fields;
 use crate::number::read_number;
-use faults::fault::{Fault, FaultAnswer};
+use faults::fault::Fault;
 use std::alloc::Global;
+use terminal::terminal::{WriteAnswer, WriteError};
 use widths::tables::Table;
 
 // The highlighters.
@@ -72,11 +73,11 @@ impl Setting {
 }
 
 // How a call goes wrong: `down`, `interrupted`, or how many bytes it takes.
-fn read_answer(word: &str) -> Result<FaultAnswer, Wrong> {
+fn read_answer(word: &str) -> Result<WriteAnswer, Wrong> {
     Ok(match word {
-        "down" => FaultAnswer::Down,
-        "interrupted" => FaultAnswer::Interrupted,
-        _ => FaultAnswer::Takes(read_number(word.as_bytes())?),
+        "down" => Err(WriteError::Down),
+        "interrupted" => Err(WriteError::Interrupted),
+        _ => Ok(read_number(word.as_bytes())?),
     })
 }
 

@@ -1,6 +1,6 @@
 -- What a write of all bytes does to the screen, from what each call does. Assumes nothing.
-use Rattle.std.proofs.Common.{◌≡◌, ℕ, ◌+◌, ◌-◌, ◌<◌, ◌≤◌, List, length, take, drop, Ok, Err, Result, sym, refl, ap, ◌∙◌, subst, arith, length-drop}
-use Rattle.std.proofs.lemmas.List.{take_all, take_rest}
+use Rattle.std.proofs.Common.{◌≡◌, ℕ, ◌+◌, ◌-◌, ◌<◌, ◌≤◌, List, length, take, drop, Ok, Err, Result, sym, refl, ap, ◌∙◌, subst, arith, lit<, length-drop}
+use Rattle.std.proofs.lemmas.List.{take_all, drop-drop}
 use Rattle.screen.specs.Screen.{Screen}
 use Rattle.screen.specs.Bytes.{feed}
 use Rattle.terminal.specs.declared.size.Size.{Size}
@@ -13,16 +13,62 @@ use Rattle.terminal.specs.Answers.{WriteAnswer, Worked, taken}
 use Rattle.terminal.specs.Writing.{Sent, begun, took, interrupted, Offered, Breaks, Last, Ends, WroteAll}
 use Rattle.terminal.specs.Feeds.{feed-more}
 
--- once all is taken, no interruption came since
-pub sent-all : {T : Type 0} (answered : T → List ℕ → WriteAnswer → T → Type 0) (bytes : List ℕ) (start : T) {n i : ℕ} {t : T} → Sent answered bytes start n i t → length bytes ≤ n → i ≡ 0
-sent-all answered bytes start begun all = refl
-sent-all answered bytes start (took s o some) all = refl
-sent-all answered bytes start (interrupted s o) all = absurd (omega (arith, o.short))
+module _ {T : Type 0} (answered : T → List ℕ → WriteAnswer → T → Type 0) (bytes : List ℕ) (start : T) where
+  -- how far a write has come, with just the rest of the bytes still to offer
+  pub record Going (rest : List ℕ) (i : ℕ) (t : T) : Type 0 where
+    pub count : ℕ
+    pub few : count ≤ length bytes
+    pub left : rest ≡ drop count bytes
+    pub patient : i < 8
+    pub sent : Sent answered bytes start count i t
 
--- what was answered to the rest of the bytes
-pub offered : {T : Type 0} (answered : T → List ℕ → WriteAnswer → T → Type 0) (bytes : List ℕ) (start : T) (n i : ℕ) (t u : T) (a b : WriteAnswer) → n < length bytes → i < 8 → a ≡ b → answered t (take (length bytes - n) (drop n bytes)) a u → Offered answered bytes start n i t b u
-offered answered bytes start n i t u a b short few e h =
-    record { short = short; patient = few; answer = subst (λ x. answered t (drop n bytes) x u) e (subst (λ l. answered t l a u) (take_rest bytes n) h) }
+module _ {T : Type 0} {answered : T → List ℕ → WriteAnswer → T → Type 0} {bytes : List ℕ} {start : T} where
+  left-length : {rest : List ℕ} {i : ℕ} {t : T} (h : Going answered bytes start rest i t) → length rest ≡ length bytes - h.count
+  left-length h = ap length h.left ∙ length-drop h.count bytes
+
+  taken-so-far : {rest : List ℕ} {i : ℕ} {t : T} (h : Going answered bytes start rest i t) → h.count ≡ length bytes - length rest
+  taken-so-far h = omega (arith, left-length h, h.few)
+
+  offered : {rest : List ℕ} {i : ℕ} {t u : T} {a : WriteAnswer} (h : Going answered bytes start rest i t) → 0 < length rest → answered t rest a u → Offered answered bytes start h.count i t a u
+  offered {rest} {i} {t} {u} {a} h some said =
+      record { short = omega (arith, left-length h); patient = h.patient; answer = subst (λ l. answered t l a u) h.left said }
+
+  -- some bytes are taken
+  pub going-took : {rest : List ℕ} {i k : ℕ} {t u : T} → Going answered bytes start rest i t → 0 < length rest → answered t rest (Ok k) u → 0 < k → k ≤ length rest → Going answered bytes start (drop k rest) 0 u
+  going-took {rest} {i} {k} h room said some within =
+      record {
+        count = h.count + k;
+        few = omega (arith, left-length h);
+        left = ap (drop k) h.left ∙ drop-drop k h.count bytes;
+        patient = lit< tt;
+        sent = took h.sent (offered h room said) some;
+      }
+
+  -- an interruption, and not the eighth
+  pub going-on : {rest : List ℕ} {i : ℕ} {t u : T} → Going answered bytes start rest i t → 0 < length rest → answered t rest (Err Interrupted) u → i + 1 < 8 → Going answered bytes start rest (i + 1) u
+  going-on h room said few = record { count = h.count; few = h.few; left = h.left; patient = few; sent = interrupted h.sent (offered h room said) }
+
+  -- the eighth
+  pub going-busy : {rest : List ℕ} {i : ℕ} {t u : T} → Going answered bytes start rest i t → 0 < length rest → answered t rest (Err Interrupted) u → 8 ≤ i + 1 → Last answered bytes start faults.Busy (length bytes - length rest) (Err Interrupted) u
+  going-busy {rest} {i} {t} {u} h room said many =
+      let eight : i + 1 ≡ 8 = omega (arith, h.patient) in
+      (subst (λ j. Sent answered bytes start (length bytes - length rest) j u) eight (subst (λ n. Sent answered bytes start n (i + 1) u) (taken-so-far h) (interrupted h.sent (offered h room said))), refl)
+
+  -- the terminal is down, or takes nothing
+  pub going-down : {rest : List ℕ} {i : ℕ} {t u : T} {a : WriteAnswer} → Going answered bytes start rest i t → 0 < length rest → answered t rest a u → Breaks faults.Down a → Last answered bytes start faults.Down (length bytes - length rest) a u
+  going-down {rest} {i} {t} {u} {a} h room said breaks =
+      subst (λ n. Last answered bytes start faults.Down n a u) (taken-so-far h) (i, t, h.sent, offered h room said, breaks)
+
+  -- once all is taken, no interruption came since
+  sent-all : {n i : ℕ} {t : T} → Sent answered bytes start n i t → length bytes ≤ n → i ≡ 0
+  sent-all begun all = refl
+  sent-all (took s o some) all = refl
+  sent-all (interrupted s o) all = absurd (omega (arith, o.short))
+
+  pub going-done : {rest : List ℕ} {i : ℕ} {t : T} → Going answered bytes start rest i t → length rest ≡ 0 → Sent answered bytes start (length bytes) 0 t
+  going-done {rest} {i} {t} h none =
+      let all : h.count ≡ length bytes = omega (arith, left-length h, h.few) in
+      subst (λ n. Sent answered bytes start n 0 t) all (subst (λ j. Sent answered bytes start h.count j t) (sent-all h.sent (omega arith)) h.sent)
 
 module _ {T : Type 0} (w : ℕ → ℕ) (screen : T → Screen) (extent : T → Size) (answered : T → List ℕ → WriteAnswer → T → Type 0)
     (works : (s t : T) (bytes : List ℕ) (a : WriteAnswer) → answered s bytes a t → Worked (geometry w (extent s)) bytes (screen s) a (screen t))

@@ -1,5 +1,5 @@
 -- Writing all of some bytes to a terminal: call after call, until all are taken or the write breaks. Assumes nothing.
-use Rattle.std.specs.Prelude.{◌≡◌, ℕ, ◌+◌, ◌<◌, List, length, take, drop, Ok, Err, codes, Result}
+use Rattle.std.specs.Prelude.{◌≡◌, ℕ, ◌+◌, ◌<◌, List, ◌∷◌, ◌++◌, length, take, drop, Ok, Err, codes, decimal, Result}
 use Rattle.screen.specs.Screen.{Screen, Geometry}
 use Rattle.screen.specs.Bytes.{feed}
 use Rattle.terminal.specs.Answers.{WriteAnswer}
@@ -17,6 +17,10 @@ fault_number faults.Busy = 9
 abbrev pub fault_word : WriteFault → List ℕ
 fault_word faults.Down = codes "down"
 fault_word faults.Busy = codes "busy"
+
+-- the number, a space and the word
+abbrev pub fault_text : WriteFault → List ℕ
+fault_text f = decimal (fault_number f) ++ 32 ∷ fault_word f
 
 -- the answer that breaks a write, by the fault
 abbrev pub Breaks : WriteFault → WriteAnswer → Type 0

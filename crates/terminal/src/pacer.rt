@@ -19,8 +19,7 @@ pub struct Pacer<T> {
 fn portion(bytes: &[u8]) -> &[u8]
     ensures { result.now ≡ take 32 bytes.now }
 {
-    let end = bytes.len().min(PORTION);
-    &bytes[0..end]
+    &bytes[..bytes.len().min(PORTION)]
 }
 
 impl<T> Pacer<T> {

@@ -17,15 +17,6 @@ use crate::size::Size;
 use crate::terminal::{Terminal, WriteAnswer, WriteError};
 use widths::tables::WidthTable;
 
-// Writes `bytes` into `memory` from `at` on.
-fn place(memory: &mut [u8], at: usize, bytes: &[u8])
-    requires { at + length bytes.now ≤ length memory.old }
-    ensures front { take (at + length bytes.now) memory.new ≡ take at memory.old ++ bytes.now }
-    ensures rest { drop (at + length bytes.now) memory.new ≡ drop (at + length bytes.now) memory.old }
-{
-    memory[at..at + bytes.len()].copy_from_slice(bytes);
-}
-
 impl<W> Record<W> {
     // A record with nothing kept yet; it can keep as many bytes as the memory has.
     pub fn new(widths: W, memory: Vec<u8>, size: Size) -> Record<W>
@@ -43,7 +34,7 @@ impl<W> Record<W> {
     pub fn bytes(&self) -> &[u8]
         ensures { result.now ≡ contents self.now }
     {
-        &self.memory.as_slice()[0..self.len]
+        &self.memory[..self.len]
     }
 }
 
@@ -96,7 +87,7 @@ impl<W: WidthTable> Terminal for Record<W> {
             return Err(WriteError::Down);
         }
         let count = bytes.len().min(room);
-        place(self.memory.as_mut_slice(), at, &bytes[0..count]);
+        self.memory[at..at + count].copy_from_slice(&bytes[..count]);
         self.len = at + count;
         Ok(count)
     }

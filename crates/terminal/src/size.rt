@@ -43,6 +43,7 @@ impl Size {
     }
 }
 
+// No plainer by a derive: that would not say that sizes are equal exactly where they are one, as `same` does.
 impl PartialEq for Size {
     ghost eq = { eq_of_both (flip_args (on (λ v. v.cols) nat_eq)) (flip_args (on (λ v. v.rows) nat_eq)) };
 

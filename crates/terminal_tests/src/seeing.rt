@@ -15,18 +15,14 @@ pub(crate) fn cells(heap: Global, count: usize) -> Result<Vec<Cell>, AllocError>
 
 // A window of 5 columns and 3 rows.
 pub(crate) fn window() -> Result<Size, Fail> {
-    match Size::new(5, 3) {
-        Ok(size) => Ok(size),
-        Err(_) => Err(Fail::new("a size is refused")),
-    }
+    Size::new(5, 3).map_err(|_| Fail::new("a size is refused"))
 }
 
 // A grid with so many cells.
 pub(crate) fn grid(heap: Global, count: usize) -> Result<Grid<Eastern>, Fail> {
-    match Grid::new(Eastern, cells(heap, count)?, window()?) {
-        Ok(grid) => Ok(grid),
-        Err(_) => Err(Fail::new("the cells are too few")),
-    }
+    Grid::new(Eastern, cells(heap, count)?, window()?).map_err(|_| Fail::new(
+        "the cells are too few",
+    ))
 }
 
 // A blank cell is a dot, the right half of a wide character is `>`, and a mark follows its character.
@@ -61,10 +57,8 @@ pub(crate) fn picture(heap: Global, grid: &Grid<Eastern>) -> Result<String, Allo
 // What the bytes draw on a blank screen.
 pub(crate) fn after(heap: Global, bytes: &[u8]) -> Result<String, Fail> {
     let mut grid = grid(heap, 20)?;
-    match write_all(&mut grid, bytes) {
-        Ok(()) => Ok(picture(heap, &grid)?),
-        Err(_) => Err(Fail::new("a write broke")),
-    }
+    write_all(&mut grid, bytes).map_err(|_| Fail::new("a write broke"))?;
+    Ok(picture(heap, &grid)?)
 }
 
 // Bytes, and the picture that they draw.

@@ -1,12 +1,16 @@
-use Rattle.std.proofs.Common.{◌≡◌, ℕ, List, length, Ok, Err, Result, sym, refl, ap, ◌∙◌, subst, arith, lit<, length-drop}
+use Rattle.std.proofs.Common.{◌≡◌, ℕ, ◌+◌, ◌-◌, ◌<◌, ◌≤◌, Bool, true, false, List, length, ◌==◌, Ok, Err, Result, sym, refl, ap, ◌∙◌, subst, arith, lit<, length-drop}
+use Rattle.std.proofs.lemmas.Bool.{eqb-false, eqb-true}
+use Rattle.std.proofs.lemmas.List.{take_rest}
+use Rattle.terminal.specs.Answers.{WriteAnswer}
 use Rattle.terminal.specs.declared.terminal.WriteError.TheVariants.{Interrupted, Down}
 use Rattle.terminal.specs.declared.writing.WriteFault.TheVariants as faults
 use Rattle.terminal.specs.declared.writing.BrokenWrite.{BrokenWrite}
 use Rattle.terminal.specs.Windows.{geometry}
-use Rattle.terminal.specs.Writing.{Sent, begun, took, interrupted, Breaks, Ends, WroteAll}
-use Rattle.terminal.proofs.Writes.{sent-all, offered, ends-wrote, ends-fixed}
+use Rattle.terminal.specs.Writing.{begun, Breaks, Last, Ends, WroteAll}
+use Rattle.terminal.proofs.Writes.{Going, going-took, going-on, going-busy, going-down, going-done, ends-wrote, ends-fixed}
 use Rattle.terminal.proofs.writing.write_all.Given as given
 use Rattle.terminal.proofs.writing.write_all.Goals as goal
+use Rattle.terminal.proofs.writing.write_all.Goals.{in-Err-Interrupted+else-interruptions-lt-PATIENCE, in-Ok-2, in-Err-Down}
 
 -- the clauses, from how the write ends
 pub record Told (g : given.Over) (bytes : List ℕ) (start : g.row.T.Denot) (r : Result Unit BrokenWrite) (end : g.row.T.Denot) : Type 0 where
@@ -22,51 +26,61 @@ told g bytes start r end h =
       fixed = ends-fixed g.T.Widths.WidthTable.columns g.T.Terminal.screen g.T.Terminal.extent g.T.Terminal.answered g.met.T.Terminal.works g.met.T.Terminal.fixed bytes start r end h;
     }
 
-pub loop-taken-init : goal.loop-taken-init
-loop-taken-init g c = (omega arith, lit< tt, begun)
+some-left : (n : ℕ) (b : Bool) → b ≡ (n == 0) → b ≡ false → 0 < n
+some-left n b e f = let some = eqb-false n 0 (sym e ∙ f) in omega arith
 
-pub loop-taken-preserved-in-Ok : goal.loop-taken-preserved-in-Ok
-loop-taken-preserved-in-Ok g c =
-    let inv = c.loop-taken.invariant in
-    let o = offered g.T.Terminal.answered c.args.bytes.now c.args.terminal.now c.loop-taken.taken c.loop-taken.interruptions c.loop-taken.terminal c.write-answer.new.self c.write-answer.result (Ok c.in-Ok.count) c.loop-taken-test.true inv.1 c.in-Ok.is c.write-answer.ensures in
-    let within = (g.met.T.Terminal.works _ _ _ _ o.answer).within in
-    (omega (arith, within, length-drop c.loop-taken.taken c.args.bytes.now, c.loop-taken-test.true), lit< tt, took inv.2 o (omega (arith, c.if-count-eq0.false)))
+none-left : (n : ℕ) (b : Bool) → b ≡ (n == 0) → b ≡ true → n ≡ 0
+none-left n b e f = eqb-true n 0 (sym e ∙ f)
 
-pub loop-taken-preserved : goal.loop-taken-preserved
-loop-taken-preserved g c =
-    let inv = c.loop-taken.invariant in
-    let o = offered g.T.Terminal.answered c.args.bytes.now c.args.terminal.now c.loop-taken.taken c.loop-taken.interruptions c.loop-taken.terminal c.write-answer.new.self c.write-answer.result (Err Interrupted) c.loop-taken-test.true inv.1 (c.in-Err-Interrupted.is ∙ ap Err (rw c.in-Err-Interrupted.is at c.in-Err-Interrupted.field-0-is)) c.write-answer.ensures in
-    (inv.0, omega (arith, inv.1, c.if-interruptions-eq-PATIENCE.false), interrupted inv.2 o)
+pub loop-rest-init : goal.loop-rest-init
+loop-rest-init g c = record { count = 0; few = omega arith; left = refl; patient = lit< tt; sent = begun }
 
-pub returns-then-count-eq0 : goal.returns-then-count-eq0
-returns-then-count-eq0 g c =
-    let inv = c.loop-taken.invariant in
+pub loop-rest-smaller-in-Ok : goal.loop-rest-smaller-in-Ok
+loop-rest-smaller-in-Ok g c =
+    let within = (g.met.T.Terminal.works _ _ _ _ c.in-Ok.ensures).within in
+    omega (arith, within, c.loop-rest.invariant.patient, length-drop c.in-Ok.count c.loop-rest.rest.now)
+
+pub loop-rest-preserved-in-Ok : goal.loop-rest-preserved-in-Ok
+loop-rest-preserved-in-Ok g c =
+    let said = c.in-Ok.ensures in
+    subst (λ l. Going g.T.Terminal.answered c.args.bytes.now c.args.terminal.now l 0 c.write-answer.new.self) (sym (take_rest c.loop-rest.rest.now c.in-Ok.count))
+    (going-took c.loop-rest.invariant (some-left _ _ c.is_empty.ensures c.loop-rest-test.true) said (omega arith) (g.met.T.Terminal.works _ _ _ _ said).within)
+
+pub loop-rest-preserved : goal.loop-rest-preserved
+loop-rest-preserved g c =
+    let said = c.in-Err-Interrupted.is ∙ ap Err (rw c.in-Err-Interrupted.is at c.in-Err-Interrupted.field-0-is) in
+    going-on c.loop-rest.invariant (some-left _ _ c.is_empty.ensures c.loop-rest-test.true)
+    (subst (λ a. g.T.Terminal.answered c.loop-rest.terminal c.loop-rest.rest.now a c.write-answer.new.self) said c.write-answer.ensures) (omega arith)
+
+pub overflow_sub-result : goal.overflow_sub-result
+overflow_sub-result g c = let h = c.loop-rest.invariant in omega (arith, ap length h.left, length-drop h.count c.args.bytes.now)
+
+pub returns-in-loop-rest : goal.returns-in-loop-rest
+returns-in-loop-rest g c =
+    let h = c.loop-rest.invariant in
+    let bytes = c.args.bytes.now in
+    let start = c.args.terminal.now in
+    let end = c.write-answer.new.self in
     let a = c.write-answer.result in
-    let o = offered g.T.Terminal.answered c.args.bytes.now c.args.terminal.now c.loop-taken.taken c.loop-taken.interruptions c.loop-taken.terminal c.write-answer.new.self c.write-answer.result a c.loop-taken-test.true inv.1 refl c.write-answer.ensures in
-    let t = told g c.args.bytes.now c.args.terminal.now (Err (record { fault = faults.Down; taken = c.loop-taken.taken; answer = a })) c.write-answer.new.self (c.loop-taken.interruptions, c.loop-taken.terminal, inv.2, o, subst (Breaks faults.Down) (sym c.in-Ok.is) c.if-count-eq0.true) in
-    record { ends = t.ends; wrote = t.wrote; fixed = t.fixed }
-
-pub returns-then-interruptions-eq-PATIENCE : goal.returns-then-interruptions-eq-PATIENCE
-returns-then-interruptions-eq-PATIENCE g c =
-    let inv = c.loop-taken.invariant in
-    let o = offered g.T.Terminal.answered c.args.bytes.now c.args.terminal.now c.loop-taken.taken c.loop-taken.interruptions c.loop-taken.terminal c.write-answer.new.self c.write-answer.result (Err Interrupted) c.loop-taken-test.true inv.1 (c.in-Err-Interrupted.is ∙ ap Err (rw c.in-Err-Interrupted.is at c.in-Err-Interrupted.field-0-is)) c.write-answer.ensures in
-    let eight = subst (λ i. Sent g.T.Terminal.answered c.args.bytes.now c.args.terminal.now c.loop-taken.taken i c.write-answer.new.self) c.if-interruptions-eq-PATIENCE.true (interrupted inv.2 o) in
-    let t = told g c.args.bytes.now c.args.terminal.now (Err (record { fault = faults.Busy; taken = c.loop-taken.taken; answer = c.write-answer.result })) c.write-answer.new.self (eight, (c.in-Err-Interrupted.is ∙ ap Err (rw c.in-Err-Interrupted.is at c.in-Err-Interrupted.field-0-is))) in
-    record { ends = t.ends; wrote = t.wrote; fixed = t.fixed }
-
-pub returns-in-Err-Down : goal.returns-in-Err-Down
-returns-in-Err-Down g c =
-    let inv = c.loop-taken.invariant in
-    let o = offered g.T.Terminal.answered c.args.bytes.now c.args.terminal.now c.loop-taken.taken c.loop-taken.interruptions c.loop-taken.terminal c.write-answer.new.self c.write-answer.result c.write-answer.result c.loop-taken-test.true inv.1 refl c.write-answer.ensures in
-    let t = told g c.args.bytes.now c.args.terminal.now (Err (record { fault = faults.Down; taken = c.loop-taken.taken; answer = c.write-answer.result })) c.write-answer.new.self (c.loop-taken.interruptions, c.loop-taken.terminal, inv.2, o, subst (Breaks faults.Down) (sym (c.in-Err-Down.is ∙ ap Err (rw c.in-Err-Down.is at c.in-Err-Down.field-0-is))) tt) in
+    let rest = c.loop-rest.rest.now in
+    let room = some-left _ _ c.is_empty.ensures c.loop-rest-test.true in
+    let answered = g.T.Terminal.answered in
+    let broken : Breaks faults.Down a → faults.Down ≡ c.match-answer.fault → Last answered bytes start c.match-answer.fault (length bytes - length rest) a end
+    = λ b e. subst (λ f. Last answered bytes start f (length bytes - length rest) a end) e (going-down h room c.write-answer.ensures b) in
+    let last : Last answered bytes start c.match-answer.fault (length bytes - length rest) a end =
+    elim c.match-answer.branch [
+      | in-Err-Interrupted+else-interruptions-lt-PATIENCE w ↦
+          let said = w.in-Err-Interrupted.is ∙ ap Err (rw w.in-Err-Interrupted.is at w.in-Err-Interrupted.field-0-is) in
+          let eighth = going-busy h room (subst (λ x. answered c.loop-rest.terminal rest x end) said c.write-answer.ensures) (omega arith) in
+          subst (λ f. Last answered bytes start f (length bytes - length rest) a end) (sym w.fault-is) (subst (λ x. Last answered bytes start faults.Busy (length bytes - length rest) x end) (sym said) eighth)
+      | in-Ok-2 w ↦ broken (rw w.in-Ok.is (omega arith)) (sym w.fault-is)
+      | in-Err-Down w ↦ broken (subst (Breaks faults.Down) (sym (w.in-Err-Down.is ∙ ap Err (rw w.in-Err-Down.is at w.in-Err-Down.field-0-is))) tt) (sym w.fault-is)
+    ] in
+    let t = told g bytes start (Err (record { fault = c.match-answer.fault; taken = length bytes - length rest; answer = a })) end last in
     record { ends = t.ends; wrote = t.wrote; fixed = t.fixed }
 
 pub returns : goal.returns
 returns g c =
-    let inv = c.loop-taken.invariant in
-    let bytes = c.args.bytes.now in
-    let none = sent-all g.T.Terminal.answered bytes c.args.terminal.now inv.2 c.loop-taken-test.false in
-    let all : c.loop-taken.taken ≡ length bytes = omega (arith, inv.0, c.loop-taken-test.false) in
-    let sent = subst (λ n. Sent g.T.Terminal.answered bytes c.args.terminal.now n 0 c.loop-taken.terminal) all (subst (λ i. Sent g.T.Terminal.answered bytes c.args.terminal.now c.loop-taken.taken i c.loop-taken.terminal) none inv.2) in
-    let t = told g bytes c.args.terminal.now (Ok tt) c.loop-taken.terminal sent in
+    let sent = going-done c.loop-rest.invariant (none-left _ _ c.is_empty.ensures c.loop-rest-test.false) in
+    let t = told g c.args.bytes.now c.args.terminal.now (Ok tt) c.loop-rest.terminal sent in
     record { ends = t.ends; wrote = t.wrote; fixed = t.fixed }

@@ -1,12 +1,10 @@
-use Rattle.std.proofs.Common.{◌+◌, ◌-◌, ◌*◌, ◌<◌, ◌≤◌, length}
-use Rattle.terminal.specs.Writing.{Sent}
+use Rattle.std.proofs.Common.{◌+◌, ◌-◌, ◌*◌, length}
+use Rattle.terminal.proofs.Writes.{Going}
 use Rattle.terminal.proofs.writing.write_all.Given as goal
 
 -- how far the write has come
-abbrev pub invariant-loop-taken : goal.invariant-loop-taken
-invariant-loop-taken g l =
-    (l.taken ≤ length l.bytes) × (l.interruptions < 8)
-    × Sent g.T.Terminal.answered l.bytes l.initial.terminal l.taken l.interruptions l.terminal
+abbrev pub invariant-loop-rest : goal.invariant-loop-rest
+invariant-loop-rest g l = Going g.T.Terminal.answered l.bytes l.initial.terminal l.rest l.interruptions l.terminal
 
-abbrev pub decreases-loop-taken : goal.decreases-loop-taken
-decreases-loop-taken g l = 8 * (length l.bytes - l.taken) + (8 - l.interruptions)
+abbrev pub decreases-loop-rest : goal.decreases-loop-rest
+decreases-loop-rest g l = 8 * length l.rest + (8 - l.interruptions)
