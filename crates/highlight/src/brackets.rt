@@ -153,6 +153,7 @@ fn find_forward(line: &[u8], pos: usize, bracket: u8) -> Option<Bracket>
 }
 
 // The partner of the closing bracket at `pos`, looked for towards the start of the line.
+// Not one function with `find_forward`, over any iterator of bytes: its contract would have to say what the iterator gives.
 fn find_backward(line: &[u8], pos: usize, bracket: u8) -> Option<Bracket>
     requires within { pos ≤ length line.now }
     requires closing { is_close bracket ≡ true }
