@@ -3,7 +3,7 @@ use crate::fault::Fault;
 use std::alloc::Global;
 use std::{env, fmt};
 use terminal::size::Size;
-use text::styled::check_styled;
+use text::styled::visible_prompt;
 use widths::tables::Table;
 
 // How captions are previewed.
@@ -99,10 +99,7 @@ impl Options {
             self.columns,
             self.rows,
         ))?;
-        if self.prompt.len() > MAX_PROMPT {
-            return Err(Fault::Prompt);
-        }
-        check_styled(self.prompt.as_bytes()).map_err(|_| Fault::Prompt)?;
+        visible_prompt(self.prompt.as_bytes(), &mut [0; MAX_PROMPT]).map_err(|_| Fault::Prompt)?;
         Ok(size)
     }
 }

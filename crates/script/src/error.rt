@@ -55,7 +55,7 @@ impl fmt::Display for Wrong {
     }
 }
 
-// What is wrong, and in which line, from 1.
+// What is wrong, and in which line, from 1. Not one generic struct with `ScriptLine`: `wrong` and `act` would lose their names.
 #[derive(Drop)]
 pub struct ScriptError {
     pub line: usize,

@@ -52,7 +52,7 @@ pub struct Quoted {
     pub len: usize,
 }
 
-// The value of a hexadecimal digit.
+// The value of a hexadecimal digit. Not by `to_digit`, whose u32 would have to be cast back.
 fn digit(byte: u8) -> Option<u8>
     ensures { result ≡ digit_of byte }
 {

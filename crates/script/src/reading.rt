@@ -1,4 +1,6 @@
 // A script, read line by line.
+ghost use Rattle.std.specs.Prelude.{IsOkUnless};
+
 use crate::act::{ScriptAct, ScriptLine};
 use crate::error::{ScriptError, Wrong};
 use crate::fields::Fields;
@@ -37,7 +39,9 @@ impl Script {
 }
 
 // Reads a script up to its end, or to the first line that cannot be read.
-pub fn read_script(heap: Global, bytes: &[u8]) -> Result<Script, Wrong> {
+pub fn read_script(heap: Global, bytes: &[u8]) -> Result<Script, Wrong>
+    ensures { IsOkUnless result Wrong.Memory }
+{
     let mut script = Script {
         settings: Settings::new(heap)?,
         acts: Vec::new(heap),
