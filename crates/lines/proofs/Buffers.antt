@@ -31,10 +31,8 @@ times-repeat zero t = refl
 times-repeat (suc n) t = ap (λ x. t ++ x) (times-repeat n t)
 
 -- what a line buffer must know of a line and a position
-pub record Sound (line : Buffer 4096) (pos : ℕ) : Type 0 where
-  pub good : good_bytes (contents line) ≡ true
-  pub inside : pos ≤ length (contents line)
-  pub front : good_bytes (take pos (contents line)) ≡ true
+abbrev pub Sound : Buffer 4096 → ℕ → Type 0
+Sound held pos = record { good : good_bytes (contents held) ≡ true; inside : pos ≤ length (contents held); front : good_bytes (take pos (contents held)) ≡ true }
 
 pub sound : (held : Buffer 4096) (line : List ℕ) (pos : ℕ) → contents held ≡ line → GoodText line → AtBoundary line pos → Sound held pos
 sound held line pos e good place =

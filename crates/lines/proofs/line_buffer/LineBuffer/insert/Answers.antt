@@ -18,5 +18,4 @@ invariant_of-self c =
     let t = c.args.text.now in
     let rule = insert-fine (line_of b) t c.args.count c.in_ok-check_insert.ensures in
     let put = rw c.unwrap.ensures at c.insert_repeated.ensures in
-    let s = inserted b t c.args.count c.insert_repeated.new.self _ rule.0 put.1 (ap (λ n. b.pos + n * length t) c.from.ensures) in
-    record { good = s.good; inside = s.inside; front = s.front }
+    inserted b t c.args.count c.insert_repeated.new.self _ rule.0 put.1 (ap (λ n. b.pos + n * length t) c.from.ensures)

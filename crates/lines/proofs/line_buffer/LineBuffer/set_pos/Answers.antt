@@ -7,5 +7,4 @@ use Rattle.lines.proofs.line_buffer.LineBuffer.set_pos.Goals as goal
 pub invariant_of-self : goal.invariant_of-self
 invariant_of-self c =
     let b = c.args.self.now in
-    let s = sound b.line (line_of b) c.args.pos refl (line-good b) (place-fine (line_of b) c.args.pos c.in_ok-check_pos.ensures) in
-    record { good = s.good; inside = s.inside; front = s.front }
+    sound b.line (line_of b) c.args.pos refl (line-good b) (place-fine (line_of b) c.args.pos c.in_ok-check_pos.ensures)

@@ -7,5 +7,4 @@ invariant_of-self c =
     let line = c.args.line.now in
     let fine = update-fine line c.args.pos c.in_ok-check_update.ensures in
     let taken = rw c.unwrap.ensures at c.set.ensures in
-    let s = sound c.set.new.self line c.args.pos taken.1 fine.0 fine.2 in
-    record { good = s.good; inside = s.inside; front = s.front }
+    sound c.set.new.self line c.args.pos taken.1 fine.0 fine.2
