@@ -1,5 +1,5 @@
 // What a record keeps, and the record as a terminal.
-ghost use Rattle.std.specs.Prelude.{◌≡◌, ◌+◌, ◌≤◌, ◌++◌, length, take, drop};
+ghost use Rattle.std.specs.Prelude.{◌≡◌, ◌+◌, length, take};
 ghost use Rattle.std.proofs.Common.{ap, ◌∙◌, arith, rules};
 ghost use Rattle.terminal.specs.Recording.{Fresh, Kept, contents, replayed};
 ghost use Rattle.terminal.specs.Windows.{geometry};

@@ -1,8 +1,6 @@
-use Rattle.std.proofs.Common.{◌≡◌, ℕ, ◌+◌, ◌-◌, ◌<◌, ◌≤◌, Bool, true, false, List, length, ◌==◌, Ok, Err, Result, sym, refl, ap, ◌∙◌, subst, arith, lit<, length-drop}
+use Rattle.std.proofs.Common.{◌≡◌, ℕ, ◌+◌, ◌-◌, ◌<◌, Bool, true, false, List, length, ◌==◌, Ok, Err, Result, sym, refl, ap, ◌∙◌, subst, arith, lit<, length-drop}
 use Rattle.std.proofs.lemmas.Bool.{eqb-false, eqb-true}
 use Rattle.std.proofs.lemmas.List.{take_rest}
-use Rattle.terminal.specs.Answers.{WriteAnswer}
-use Rattle.terminal.specs.declared.terminal.WriteError.TheVariants.{Interrupted, Down}
 use Rattle.terminal.specs.declared.writing.WriteFault.TheVariants as faults
 use Rattle.terminal.specs.declared.writing.BrokenWrite.{BrokenWrite}
 use Rattle.terminal.specs.Windows.{geometry}

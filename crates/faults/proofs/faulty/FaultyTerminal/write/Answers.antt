@@ -1,4 +1,4 @@
-use Rattle.std.proofs.Common.{◌≡◌, ◌-◌, ◌≤◌, true, ◌++◌, length, take, is_ok, vec_items, sym, refl, ap, ◌∙◌, subst, append-nil, arith, length-take}
+use Rattle.std.proofs.Common.{◌≡◌, ◌≤◌, true, ◌++◌, length, take, is_ok, vec_items, sym, refl, ap, ◌∙◌, subst, append-nil, arith, length-take}
 use Rattle.std.proofs.lemmas.Bool.{cond-true}
 use Rattle.terminal.specs.Answers.{taken}
 use Rattle.std.specs.declared.ops.ControlFlow.TheVariants.{Continue, Break}
