@@ -1,18 +1,14 @@
 -- What a highlighter answers behind what is composed.
-use Rattle.std.proofs.Common.{◌≡◌, ℕ, ◌+◌, ◌≤◌, true, List, ◌++◌, length, take, is_some, Some, None, Option, refl, subst, arith}
+use Rattle.std.proofs.Common.{◌≡◌, ℕ, ◌+◌, ◌≤◌, true, List, length, take, is_some, Some, None, Option, refl, arith}
 use Rattle.buffer.proofs.Buffers.{length-spare}
 use Rattle.buffer.specs.Contents.{Writes, spare}
-use Rattle.highlight.specs.Answers.{Answers, Written}
+use Rattle.highlight.specs.Answers.{Answers}
 use Rattle.render.specs.Composing.{composed}
 use Rattle.render.specs.Drawing.{Appends}
 use Rattle.render.specs.declared.renderer.PosixRenderer.{PosixRenderer}
 
 -- the room behind what is composed is lent for an answer to a text
 module _ (r : PosixRenderer) (allows : List ℕ → Type 0) (text : List ℕ) (room : List ℕ) where
-  pub answer-some : (o : Option ℕ) → Answers allows text (spare r.buffer) o room → length (composed r) + (length text + 256) ≤ 8192 → is_some o ≡ true
-  answer-some None asked fits = absurd (omega (arith, asked.0, length-spare r.buffer))
-  answer-some (Some n) asked fits = refl
-
   -- n bytes are answered
   pub answer-appends : (o : Option ℕ) (end : List ℕ) (n limit : ℕ) → Answers allows text (spare r.buffer) o room → Writes room (composed r) o end → o ≡ Some n → ((lit : List ℕ) → allows lit → length lit ≤ limit) → Appends allows limit (composed r) end
   answer-appends None end n limit asked written some short = absurd (cc)

@@ -32,22 +32,3 @@ module _ (o : Option Layout) (start one : List ℕ) (none : start ≡ []) (old :
       short = omega (arith, texts-length, push-length end two (place_layout l) place, place-length l);
       erased = sym e ∙ ap length old-first;
     }
-
--- the part that erases, and the part that draws
-module _ {allows : Styles → Type 0} {o : Option Layout} {l : Layout} {n : ℕ} {buffer : List ℕ} (c : Composes allows o l n buffer) where
-  pub erasing-part : take n buffer ≡ old_rows o
-  erasing-part = ap (take n) c.bytes ∙ take_at (old_rows o) (draw_layout c.styles l) n (sym c.erased)
-
-  pub drawing-part : drop n buffer ≡ draw_layout c.styles l
-  drawing-part = ap (drop n) c.bytes ∙ drop_at (old_rows o) (draw_layout c.styles l) n (sym c.erased)
-
--- a drawing that is written, in a held update or without one
-pub drew : {T : Type 0} {answered : T → List ℕ → WriteAnswer → T → Type 0} {allows : Styles → Type 0} {o : Option Layout} {l : Layout} {n : ℕ} {buffer : List ℕ} (holds : Bool) (bytes : List ℕ) (s t : T) (r : Result Unit BrokenAct)
-    → Composes allows o l n buffer → bytes ≡ buffer → Written answered s (framed holds (bytes ∷ [])) r t → Drew answered allows o l holds s r t buffer
-drew {answered = answered} holds bytes s t r c same w = record {
-  styles = c.styles;
-  styled = c.styled;
-  bytes = c.bytes;
-  short = c.short;
-  written = subst (λ (x : List ℕ). Written answered s (framed holds (x ∷ [])) r t) (same ∙ c.bytes) w;
-}

@@ -5,4 +5,3 @@ mod Digits
 mod Moves
 mod Answering
 mod Styling
-mod Notices

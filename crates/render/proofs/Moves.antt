@@ -22,13 +22,6 @@ pub shift-from-length : (more less i k : ℕ) → i < 65536 → k < 65536 → le
 shift-from-length more less i k hi hk =
     elim (ltb i k) as (λ b. length (cond b (shift_by more (k - i)) (shift_by less (i - k))) ≤ 8) [ true ↦ shift-length more (k - i) (omega arith) | false ↦ shift-length less (i - k) (omega arith) ]
 
--- the two ways of a shift
-pub shift-more : (more less i k : ℕ) → i < k → shift_by more (k - i) ≡ shift_from more less i k
-shift-more more less i k h = cond_below i k (shift_by more (k - i)) (shift_by less (i - k)) h
-
-pub shift-less : (more less i k : ℕ) → k ≤ i → shift_by less (i - k) ≡ shift_from more less i k
-shift-less more less i k h = cond_above i k (shift_by more (k - i)) (shift_by less (i - k)) (shift_by less (i - k)) h refl
-
 -- over fewer than a thousand rows or columns
 pub some-length : (b n : ℕ) → n < 1000 → length (some_move b n) ≤ 6
 some-length b zero h = omega arith

@@ -1,5 +1,5 @@
 -- Texts behind what is composed, as they are or as a highlighter answers them.
-use Rattle.std.proofs.Common.{◌≡◌, ℕ, ◌+◌, ◌≤◌, Bool, true, false, List, ◌++◌, length, Some, None, Option, sym, refl, subst, arith, length-append}
+use Rattle.std.proofs.Common.{◌≡◌, ℕ, ◌+◌, ◌≤◌, true, List, ◌++◌, length, Some, None, Option, refl, subst, arith, length-append}
 use Rattle.lines.proofs.Buffers.{line-short}
 use Rattle.lines.proofs.Notes.{note-text}
 use Rattle.lines.proofs.Prompts.{raw-short}
@@ -40,9 +40,6 @@ module _ {H : Type 0} (asked : Ghosts H) (h : H) (b : Block) where
     short = omega (arith, length-append x.answer (y.answer ++ z.answer), length-append y.answer z.answer, x.short, y.short, z.short);
     bytes = push-three before one two end x.answer y.answer z.answer x.bytes y.bytes z.bytes;
   }
-
-pub appends-length : (allows : List ℕ → Type 0) (limit : ℕ) (before after : List ℕ) → Appends allows limit before after → length after ≤ length before + limit
-appends-length allows limit before after a = omega (arith, push-length after before a.answer a.bytes, a.short)
 
 -- a note that there is
 pub note-appends : {before after : List ℕ} (lights : List ℕ → List ℕ → Type 0) (n : Note) (t : List ℕ) (limit : ℕ) → Some t ≡ note_of n → Appends (lights t) limit before after → Appends (NoteLit lights (note_of n)) limit before after

@@ -18,11 +18,6 @@ pub byte-marks : (b : Bool) → bool_byte b ≡ marks b
 byte-marks true = refl
 byte-marks false = refl
 
--- a mark is at most one write
-pub marks-few : (b : Bool) (w : List ℕ) → (marks b ≤ 1) × (length (cond b (w ∷ []) []) ≤ 1)
-marks-few true w = (omega arith, omega arith)
-marks-few false w = (omega arith, omega arith)
-
 -- a piece among some
 pub bytes-within : (ps : List (Bor (List ℕ))) (i : ℕ) → i < length ps → i < length (bytes_of ps)
 bytes-within ps i h = omega (arith, length-map ps (λ (p : Bor (List ℕ)). p.now))
@@ -74,9 +69,6 @@ module _ {T : Type 0} (answered : T → List ℕ → WriteAnswer → T → Type 
       subst (λ a. Written answered x (ws ++ (w ∷ [])) a t) (sym (p.1 ∙ ap Err number)) (written-append (Err (record { number = 0; write = b })) front (broke h))
 
   -- some writes behind n others, so far i of them
-  pub pieces_none : (n : ℕ) (s : T) (more : List (List ℕ)) → FollowAll answered n s (take 0 more) (Ok tt) s
-  pieces_none n s more x ws e front = subst (λ a. Written answered x a (Ok tt) s) (sym (append-nil ws)) front
-
   module _ (n i : ℕ) (s t u : T) (more : List (List ℕ)) (all : FollowAll answered n s (take i more) (Ok tt) t) (within : i < length more) where
     pieces-here : {w : List ℕ} (r : Result Unit BrokenAct) → Follows answered (n + i) t w r u → w ≡ get_or more i [] → FollowAll answered n s (take (i + 1) more) r u
     pieces-here {w} r f here x ws e front =

@@ -1,5 +1,5 @@
 -- The bytes that draw and erase a block, by its layout and its texts. Assumes nothing.
-use Rattle.std.specs.Prelude.{◌≡◌, ℕ, ◌-◌, ◌≤◌, Bool, true, cond, List, [], ◌∷◌, ◌++◌, length, Some, None, Option, Result}
+use Rattle.std.specs.Prelude.{◌≡◌, ℕ, ◌-◌, ◌≤◌, Bool, true, List, [], ◌∷◌, ◌++◌, length, Some, None, Option, Result}
 use Rattle.layout.specs.declared.block.Layout.{Layout}
 use Rattle.lines.specs.Lines.{line_of}
 use Rattle.lines.specs.Notes.{note_of}

@@ -4,12 +4,6 @@ use denote.Ref.{Bor}
 use Rattle.page.specs.Law.{Written}
 use Rattle.page.specs.declared.outcome.BrokenAct.{BrokenAct}
 use Rattle.terminal.specs.Answers.{WriteAnswer}
-use Rattle.terminal.specs.declared.writing.BrokenWrite.{BrokenWrite}
-
--- the end of a single write, whose number is 0
-abbrev pub numbered : Result Unit BrokenWrite → Result Unit BrokenAct
-numbered (Ok u) = Ok tt
-numbered (Err e) = Err (record { number = 0; write = e })
 
 -- a broken write, with so many writes before its act's own
 abbrev pub shifted_act : ℕ → BrokenAct → BrokenAct
@@ -30,10 +24,10 @@ marks true = 1
 marks false = 0
 
 module _ {T : Type 0} (answered : T → List ℕ → WriteAnswer → T → Type 0) where
-  -- a write behind so many others: any of that number, all taken, go on with it
-  abbrev pub Follows : ℕ → T → List ℕ → Result Unit BrokenAct → T → Type 0
-  Follows n before bytes r after = (s : T) (ws : List (List ℕ)) → length ws ≡ n → Written answered s ws (Ok tt) before → Written answered s (ws ++ (bytes ∷ [])) r after
-
-  -- some writes behind so many others
+  -- some writes behind so many others: any of that number, all taken, go on with them
   abbrev pub FollowAll : ℕ → T → List (List ℕ) → Result Unit BrokenAct → T → Type 0
   FollowAll n before more r after = (s : T) (ws : List (List ℕ)) → length ws ≡ n → Written answered s ws (Ok tt) before → Written answered s (ws ++ more) r after
+
+  -- a write behind so many others
+  abbrev pub Follows : ℕ → T → List ℕ → Result Unit BrokenAct → T → Type 0
+  Follows n before bytes r after = FollowAll n before (bytes ∷ []) r after

@@ -39,6 +39,7 @@ impl PosixRenderer {
     }
 
     // Puts a number in decimal behind what is composed.
+    // Tried `write!`: no clause says that it answers `Ok`, so its `unwrap` is not proved.
     pub(crate) fn push_number(&mut self, n: u16)
         requires { length (composed self.old) + length (decimal n) ≤ 8192 }
         ensures { composed self.new ≡ composed self.old ++ decimal n }

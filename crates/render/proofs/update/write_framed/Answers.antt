@@ -1,8 +1,8 @@
-use Rattle.std.proofs.Common.{◌≡◌, cond, [], ◌∷◌, length, rules, sym, ◌∙◌, subst}
+use Rattle.std.proofs.Common.{cond, [], ◌∷◌, length, rules, sym, ◌∙◌, subst}
 use Rattle.std.proofs.lemmas.List.{length-map}
 use Rattle.page.specs.Law.{Written}
 use Rattle.render.proofs.Writes.{byte-marks, framed-begin, framed-body, framed-end}
-use Rattle.render.specs.Numbering.{bytes_of, marks}
+use Rattle.render.specs.Numbering.{bytes_of}
 use Rattle.screen.specs.Output.{release_bytes}
 use Rattle.std.proofs.lemmas.Result.{err_from_is_err_and}
 use Rattle.render.proofs.update.write_framed.Goals as goal

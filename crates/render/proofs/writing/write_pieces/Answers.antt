@@ -1,11 +1,8 @@
 use Rattle.std.proofs.Common.{◌<◌, length, arith}
 use Rattle.std.proofs.lemmas.Result.{err_from_is_err_and}
-use Rattle.render.proofs.Writes.{bytes-at, bytes-within, pieces-broke, pieces-more, pieces_none}
+use Rattle.render.proofs.Writes.{bytes-at, bytes-within, pieces-broke, pieces-more}
 use Rattle.render.specs.Numbering.{bytes_of}
 use Rattle.render.proofs.writing.write_pieces.Goals as goal
-
-pub loop-number-init : goal.loop-number-init
-loop-number-init g c = pieces_none g.T.Terminal.answered c.args.before c.args.terminal.now (bytes_of c.args.pieces.now)
 
 pub returns-in_err-write_next : goal.returns-in_err-write_next
 returns-in_err-write_next g c =

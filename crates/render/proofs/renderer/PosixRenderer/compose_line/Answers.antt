@@ -1,5 +1,4 @@
 use Rattle.std.proofs.Common.{sym, arith}
-use Rattle.buffer.proofs.Buffers.{length-contents}
 use Rattle.render.proofs.Drawings.{composes, first-length, texts-length}
 use Rattle.render.specs.Composing.{composed}
 use Rattle.render.specs.Drawing.{StyledTexts, block_texts, now_of}

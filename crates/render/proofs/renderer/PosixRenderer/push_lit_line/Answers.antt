@@ -3,16 +3,9 @@ use Rattle.highlight.specs.Answers.{Answers}
 use Rattle.lines.proofs.Buffers.{line-good, line-short}
 use Rattle.lines.specs.Lines.{line_of}
 use Rattle.page.proofs.Spelt.{spells-decodes}
-use Rattle.render.proofs.Answering.{answer-appends, answer-some}
+use Rattle.render.proofs.Answering.{answer-appends}
 use Rattle.std.specs.Str.{chars}
 use Rattle.render.proofs.renderer.PosixRenderer.push_lit_line.Goals as goal
-
-pub unwrap-requires : goal.unwrap-requires
-unwrap-requires g c =
-    let b = c.args.line.now in
-    let w = c.extend_with.ensures.1 in
-    let lent : Answers (g.H.Highlighter.lights c.args.highlighter.now c.line-text.result.now c.pos-pos.result) c.line-text.result.now w.shown.now c.extend_with.result w.left.now = search rules in
-    answer-some c.args.self.now _ (line_of b) _ c.extend_with.result (rw (w.shows, w.leaves, c.line-text.ensures, c.pos-pos.ensures) at lent) (omega (arith, line-short b))
 
 pub returns : goal.returns
 returns g c =

@@ -2,18 +2,10 @@ use Rattle.std.proofs.Common.{ℕ, ◌≤◌, List, length, rules, sym, arith}
 use Rattle.highlight.specs.Answers.{Answers}
 use Rattle.lines.proofs.Notes.{note-text}
 use Rattle.page.proofs.Spelt.{spells-decodes}
-use Rattle.render.proofs.Answering.{answer-appends, answer-some}
+use Rattle.render.proofs.Answering.{answer-appends}
 use Rattle.render.proofs.Styling.{note-appends}
 use Rattle.std.specs.Str.{chars}
 use Rattle.render.proofs.renderer.PosixRenderer.push_lit_note.Goals as goal
-
-pub unwrap-requires : goal.unwrap-requires
-unwrap-requires g c =
-    let t = c.in-Some.text.now in
-    let fine = note-text c.args.note.now t (sym c.in-Some.ensures) in
-    let w = c.extend_with.ensures.1 in
-    let lent : Answers (g.H.Highlighter.lights_hint c.args.highlighter.now t) t w.shown.now c.extend_with.result w.left.now = search rules in
-    answer-some c.args.self.now _ t _ c.extend_with.result (rw (w.shows, w.leaves) at lent) (omega (arith, fine.short))
 
 pub returns : goal.returns
 returns g c =

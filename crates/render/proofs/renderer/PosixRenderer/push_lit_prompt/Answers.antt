@@ -2,16 +2,9 @@ use Rattle.std.proofs.Common.{ℕ, ◌≤◌, true, List, length, rules, arith}
 use Rattle.highlight.specs.Answers.{Answers}
 use Rattle.lines.proofs.Prompts.{styled-short, styled-shows}
 use Rattle.lines.specs.Prompts.{styled_of, visible_of}
-use Rattle.render.proofs.Answering.{answer-appends, answer-some}
+use Rattle.render.proofs.Answering.{answer-appends}
 use Rattle.std.specs.Str.{chars}
 use Rattle.render.proofs.renderer.PosixRenderer.push_lit_prompt.Goals as goal
-
-pub unwrap-requires : goal.unwrap-requires
-unwrap-requires g c =
-    let p = c.args.prompt.now in
-    let w = c.extend_with.ensures.1 in
-    let lent : Answers (g.H.Highlighter.lights_prompt c.args.highlighter.now c.styled-form.result.now true) c.styled-form.result.now w.shown.now c.extend_with.result w.left.now = search rules in
-    answer-some c.args.self.now _ (styled_of p) _ c.extend_with.result (rw (w.shows, w.leaves, c.styled-form.ensures) at lent) (omega (arith, styled-short p))
 
 pub returns : goal.returns
 returns g c =

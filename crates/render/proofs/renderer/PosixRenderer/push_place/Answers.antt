@@ -1,8 +1,8 @@
-use Rattle.std.proofs.Common.{◌-◌, ◌≤◌, [], ◌∷◌, ◌++◌, ap, ◌∙◌, arith}
-use Rattle.render.proofs.Buffers.{push-length, push-push, push-three}
-use Rattle.render.proofs.Moves.{closing-length, some-column, some-length, some-up}
+use Rattle.std.proofs.Common.{◌-◌, ◌≤◌, [], ◌∷◌, ap, arith}
+use Rattle.render.proofs.Buffers.{push-length}
+use Rattle.render.proofs.Moves.{closing-length, some-length}
 use Rattle.render.specs.Composing.{composed, some_move}
-use Rattle.screen.specs.Output.{closing, to_column, up_by}
+use Rattle.screen.specs.Output.{closing}
 use Rattle.render.proofs.renderer.PosixRenderer.push_place.Goals as goal
 
 pub push_some_move-requires : goal.push_some_move-requires
@@ -26,15 +26,3 @@ push_some_move-requires-2 c =
     let low : end.row ≤ 199 = omega (arith, ap (λ p. p.row) c.end-end.ensures, c.args.layout.now.low) in
     let within : cursor.col ≤ 499 = omega (arith, ap (λ p. p.col) c.cursor-cursor.ensures, c.args.layout.now.within) in
     omega (arith, push-length (composed c.push_closing.new.self) (composed c.args.self.now) (closing c.full.result) c.push_closing.ensures, push-length (composed c.push_some_move.new.self) (composed c.push_closing.new.self) (some_move 65 (end.row - cursor.row)) c.push_some_move.ensures, push-length (composed c.push.new.self) (composed c.push_some_move.new.self) (13 ∷ []) c.push.ensures, closing-length c.full.result, some-length 65 (end.row - cursor.row) (omega arith), some-length 67 cursor.col (omega arith), c.requires)
-
-pub returns : goal.returns
-returns c =
-    let end = c.end-end.result in
-    let cursor = c.cursor-cursor.result in
-    let before = composed c.args.self.now in
-    let one = composed c.push_closing.new.self in
-    let two = composed c.push_some_move.new.self in
-    push-three before one two (composed c.push_some_move-2.new.self) (closing c.full.result) (up_by (end.row - cursor.row)) (to_column cursor.col) c.push_closing.ensures
-    (c.push_some_move.ensures ∙ ap (λ x. one ++ x) (some-up (end.row - cursor.row)))
-    (push-push two (composed c.push.new.self) (composed c.push_some_move-2.new.self) (13 ∷ []) (some_move 67 cursor.col) c.push.ensures c.push_some_move-2.ensures ∙ ap (λ x. two ++ x) (some-column cursor.col))
-    ∙ (λ i. before ++ (closing (c.full.ensures i) ++ (up_by ((c.end-end.ensures i).row - (c.cursor-cursor.ensures i).row) ++ to_column (c.cursor-cursor.ensures i).col)))

@@ -1,4 +1,4 @@
-use Rattle.std.proofs.Common.{◌≡◌, ◌++◌, length, ap, ◌∙◌, append_assoc, arith}
+use Rattle.std.proofs.Common.{◌++◌, length, ap, ◌∙◌, append_assoc, arith}
 use Rattle.buffer.proofs.Buffers.{is_taken}
 use Rattle.render.proofs.Buffers.{grown}
 use Rattle.render.proofs.Moves.{last_row, row_up, rows-up, rows-room}

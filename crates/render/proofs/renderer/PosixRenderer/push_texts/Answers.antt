@@ -1,25 +1,12 @@
-use Rattle.std.proofs.Common.{◌++◌, length, sym, ap, ◌∙◌, append-nil, arith}
-use Rattle.lines.proofs.Buffers.{line-short}
-use Rattle.lines.proofs.Prompts.{raw-short}
+use Rattle.std.proofs.Common.{◌++◌, sym, ap, ◌∙◌, append-nil}
 use Rattle.lines.specs.Lines.{line_of}
 use Rattle.lines.specs.Notes.{note_of}
 use Rattle.lines.specs.Prompts.{raw_of}
-use Rattle.render.proofs.Buffers.{push-length, push-three}
-use Rattle.render.proofs.Styling.{note-short, plain-appends}
+use Rattle.render.proofs.Buffers.{push-three}
+use Rattle.render.proofs.Styling.{plain-appends}
 use Rattle.render.specs.Composing.{composed}
 use Rattle.render.specs.Drawing.{note_bytes}
 use Rattle.render.proofs.renderer.PosixRenderer.push_texts.Goals as goal
-
-pub push-requires : goal.push-requires
-push-requires c = omega (arith, ap length c.raw.ensures, raw-short c.args.block.now.prompt.now)
-
-pub push-requires-2 : goal.push-requires-2
-push-requires-2 c =
-    omega (arith, ap length c.raw.ensures, raw-short c.args.block.now.prompt.now, ap length c.line.ensures, line-short c.args.block.now.line.now, push-length (composed c.push.new.self) (composed c.args.self.now) c.raw.result.now c.push.ensures)
-
-pub push-requires-in-Some : goal.push-requires-in-Some
-push-requires-in-Some c =
-    omega (arith, ap length c.raw.ensures, raw-short c.args.block.now.prompt.now, ap length c.line.ensures, line-short c.args.block.now.line.now, push-length (composed c.push.new.self) (composed c.args.self.now) c.raw.result.now c.push.ensures, push-length (composed c.push-2.new.self) (composed c.push.new.self) c.line.result.now c.push-2.ensures, ap (λ o. length (note_bytes o)) c.in-Some.ensures, note-short c.args.block.now.note.now)
 
 pub returns-in-Some : goal.returns-in-Some
 returns-in-Some c =
