@@ -8,7 +8,7 @@ use terminal::writing::BrokenWrite;
 use text::refusal::Refusal;
 
 // The write that broke an act: its number among the act's writes, from 0, and how it ended.
-#[derive(Clone, Copy, PartialEq, Eq)]
+#[derive(Clone, Copy, Debug, PartialEq, Eq)]
 pub struct BrokenAct {
     pub number: usize,
     pub write: BrokenWrite,
@@ -18,16 +18,15 @@ impl fmt::Display for BrokenAct {
     ghost output = { λ b. Some (broken_text b) };
 
     fn fmt<W: fmt::Write>(&self, f: &mut fmt::Formatter<W>) -> fmt::Result {
-        let code = u8::from(self.write.fault);
-        let word = self.write.fault.word();
+        let fault = self.write.fault;
         let number = self.number;
         let taken = self.write.taken;
-        write!(f, "{code} {word} write {number} taken {taken}")
+        write!(f, "{fault} write {number} taken {taken}")
     }
 }
 
 // Why an act is not accepted.
-#[derive(Clone, Copy, PartialEq, Eq)]
+#[derive(Clone, Copy, Debug, PartialEq, Eq)]
 pub enum Rejection {
     // by a rule, with nothing written or altered
     Refused(Refusal),
