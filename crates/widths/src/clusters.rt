@@ -24,19 +24,39 @@ fn is_mark<W: WidthTable>(c: char) -> bool
     W::width(c) == 0 && !is_control(c)
 }
 
-// How many bytes the marks take that stand from an index on, behind a character: none behind a control.
-fn marks_behind<W: WidthTable>(first: char, bytes: &[u8], at: usize) -> usize
-    requires { at ≤ length bytes.now }
-    ensures marks { FrontMarks W.WidthTable.columns (drop at bytes.now) result }
+// The characters of some bytes, up to where none begins.
+#[derive(Drop)]
+struct Characters<'a>(&'a [u8]);
+
+impl Iterator for Characters<'_> {
+    ghost use Rattle.std.specs.Iterator.{at_most};
+    ghost use Rattle.widths.specs.Walks.{TakesCharacter};
+
+    type Item = Decoded;
+
+    ghost next_gives = { λ s r t. TakesCharacter s.0.now r t.0.now };
+
+    ghost remaining = { λ s. at_most (length s.0.now) };
+
+    fn next(&mut self) -> Option<Decoded> {
+        let first = char_at(self.0, 0)?;
+        self.0 = &self.0[first.len..];
+        Some(first)
+    }
+}
+
+// How many bytes the marks take that stand behind a character: none behind a control.
+fn marks_behind<W: WidthTable>(first: char, bytes: &[u8]) -> usize
+    ensures marks { FrontMarks W.WidthTable.columns bytes.now result }
     ensures alone { is_control first ≡ true → result ≡ 0 }
-    ensures next { is_control first ≡ false → NoMark W.WidthTable.columns (drop (at + result) bytes.now) }
-    ensures within { at + result ≤ length bytes.now }
+    ensures next { is_control first ≡ false → NoMark W.WidthTable.columns (drop result bytes.now) }
+    ensures within { result ≤ length bytes.now }
 {
     if is_control(first) {
         return 0;
     }
     let mut len = 0;
-    while let Some(next) = char_at(bytes, at + len) {
+    for next in Characters(bytes) {
         if !is_mark::<W>(next.code) {
             break;
         }
@@ -63,8 +83,16 @@ pub fn cluster_at<W: WidthTable>(bytes: &[u8], at: usize) -> Option<ClusterAt>
     ensures front { Clustered W.WidthTable.columns (drop at bytes.now) result }
     ensures within { Within at (length bytes.now) result }
 {
-    let first = char_at(bytes, at)?;
-    let marks = marks_behind::<W>(first.code, bytes, at + first.len);
+    first_cluster::<W>(bytes.get(at..)?)
+}
+
+// The cluster that begins the bytes.
+fn first_cluster<W: WidthTable>(bytes: &[u8]) -> Option<ClusterAt>
+    ensures front { Clustered W.WidthTable.columns bytes.now result }
+    ensures within { Within 0 (length bytes.now) result }
+{
+    let first = char_at(bytes, 0)?;
+    let marks = marks_behind::<W>(first.code, &bytes[first.len..]);
     Some(cluster_of::<W>(first, marks))
 }
 
@@ -107,7 +135,7 @@ impl<'a, W: WidthTable> Iterator for Clusters<'a, W> {
         if self.rest.is_empty() {
             return None;
         }
-        match cluster_at::<W>(self.rest, 0) {
+        match first_cluster::<W>(self.rest) {
             Some(cluster) => {
                 self.rest = &self.rest[cluster.len..];
                 Some(Ok(cluster))

@@ -4,8 +4,7 @@
 ghost use Rattle.worked.specs.Worked.{WorkedFacts};
 
 // At five columns behind the prompt `> `: where texts end, what acts write, which bracket is lit, and what bytes do to wide characters and marks.
-pub fn worked_facts() -> u8
+pub fn worked_facts()
     ensures { WorkedFacts }
 {
-    0
 }

@@ -1,14 +1,8 @@
-use Rattle.std.proofs.Common.{arith}
-use Rattle.widths.proofs.Standing.{cluster-front}
+use Rattle.std.proofs.Common.{arith, length-drop, drop}
+use Rattle.text.proofs.Decodes.{no-lead}
 use Rattle.widths.proofs.clusters.cluster_at.Goals as goal
 
-pub returns : goal.returns
-returns g c =
-    let first = c.in_ok-first.ensures in
-    let marks = c.marks_behind-marks.ensures in
-    let within = first.within in
-    rw c.cluster_of.ensures
-    record {
-      front = cluster-front _ c.args.bytes.now c.args.at c.in_ok-first.first c.marks_behind-marks.result first.decodes (record { marks = marks.marks; alone = marks.alone; next = marks.next });
-      within = (omega arith, omega arith);
-    }
+pub returns-in_err-get-clause-front : goal.returns-in_err-get-clause-front
+returns-in_err-get-clause-front g c =
+    let past = c.in_err-get.ensures.lookup in
+    rw c.from_residual.ensures (no-lead (drop c.args.at c.args.bytes.now) (omega (arith, past, length-drop c.args.at c.args.bytes.now)))

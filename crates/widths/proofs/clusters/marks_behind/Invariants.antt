@@ -1,10 +1,6 @@
-use Rattle.std.proofs.Common.{◌+◌, ◌-◌, ◌≤◌, length, drop}
-use Rattle.widths.specs.Fronts.{FrontMarks}
+use Rattle.widths.proofs.Standing.{Passed}
 use Rattle.widths.proofs.clusters.marks_behind.Given as goal
 
 -- what was passed are marks
 abbrev pub invariant-loop-next : goal.invariant-loop-next
-invariant-loop-next g l = (l.at + l.len ≤ length l.bytes) × FrontMarks g.W.WidthTable.columns (drop l.at l.bytes) l.len
-
-abbrev pub decreases-loop-next : goal.decreases-loop-next
-decreases-loop-next g l = length l.bytes - (l.at + l.len)
+invariant-loop-next g l = Passed g.W.WidthTable.columns l.bytes l.len l.next-iterator.0.now
