@@ -1,5 +1,5 @@
 -- The tests of texts decide what they test, and compute what is shown.
-use Rattle.std.proofs.Common.{◌≡◌, ℕ, ◌<◌, ◌≤◌, Bool, true, false, cond, not, ◌&&◌, ◌||◌, eqb, List, [], ◌∷◌, ◌++◌, length, take, drop, Some, None, Decides, Option, sym, refl, ap, ◌∙◌, subst, append_assoc, arith}
+use Rattle.std.proofs.Common.{◌≡◌, ℕ, ◌<◌, ◌≤◌, Bool, true, false, cond, eqb, List, [], ◌∷◌, ◌++◌, length, take, drop, Some, None, Decides, Option, sym, refl, ap, ◌∙◌, subst, append_assoc, arith}
 use lib.Utf8.{encode, encodes, low_scalar, scalar, scalars}
 use Rattle.layout.specs.declared.measure.EscapeSequence.{EscapeSequence}
 use Rattle.layout.specs.declared.measure.EscapeSequence.TheVariants.{Begun, Inside, Outside}
@@ -7,16 +7,16 @@ use Rattle.page.proofs.Spelt.{good-cut, styled-decodes}
 use Rattle.page.specs.Computed.{same_characters, shown_by, shown_from, shows_as}
 use Rattle.page.specs.Rules.{AtBoundary}
 use Rattle.std.proofs.lemmas.Slice.Eq.{bytes_eq-Decides}
-use Rattle.std.proofs.lemmas.Bool.{and_from, and_parts, cond-false, cond-true, eqb-true, false≢true, ne_eqb, not_from_false, not-true}
+use Rattle.std.proofs.lemmas.Bool.{and_from, and_parts, cond-false, cond-true, eqb-true, false≢true, ne_eqb}
 use Rattle.std.proofs.lemmas.Str.{chars-encodes, encode_ascii}
-use Rattle.std.proofs.lemmas.Bool.Decides.{Decides-and, Decides-eqb, Decides-like, Decides-or, nat_tests}
+use Rattle.std.proofs.lemmas.Bool.Decides.{nat_tests}
 use Rattle.std.specs.Option.{option_map}
 use Rattle.std.specs.Str.{chars}
 use Rattle.text.proofs.Spelling.{good-not-esc, good-text-utf8}
 use Rattle.text.specs.Tests.{good_bytes, good_character, spelled_out}
 pub use Rattle.text.proofs.Testing.{good-bytes, good-bytes-decides, good-character, good-characters, good-text, spells-decodes}
-use Rattle.text.specs.Characters.{AllGood, Good, is_control}
-use Rattle.text.specs.Texts.{GoodText, Styled, dyes, ends, is_plain, plain, shows, style}
+use Rattle.text.specs.Characters.{Good}
+use Rattle.text.specs.Texts.{Styled, dyes, ends, is_plain, plain, shows, style}
 
 -- digits and semicolons are ASCII, and spell themselves
 plain-low : (c : ℕ) → is_plain c ≡ true → c < 128

@@ -1,17 +1,17 @@
 -- The characters of good texts, and of their parts.
 use Rattle.std.proofs.Common.{◌≡◌, ℕ, zero, suc, ◌+◌, ◌*◌, ◌≤◌, List, [], ◌∷◌, ◌++◌, length, take, drop, IsUtf8, sym, refl, ap, ◌∙◌, subst, append_assoc, append-nil, suc-mul, add_comm, zero-mul, arith, length-append}
 use lib.Seq.{take-append_seam}
-use lib.Utf8.{encode, encodes}
+use lib.Utf8.{encode}
 use Rattle.page.specs.Acts.{times}
 use Rattle.page.specs.Rules.{AtBoundary, OneCharacter}
 use Rattle.std.proofs.lemmas.List.{length-take-le, take-append-drop}
-use Rattle.std.proofs.lemmas.Str.{IsCharBoundary-from_take, chars-append, chars-encodes}
+use Rattle.std.proofs.lemmas.Str.{IsCharBoundary-from_take, chars-append}
 use Rattle.std.specs.Str.{chars}
-use Rattle.text.proofs.Spelling.{good-scalars, good-text-append, good-text-cut, good-text-utf8}
+use Rattle.text.proofs.Spelling.{good-text-append, good-text-cut, good-text-utf8}
 use Rattle.text.proofs.Styling.{spells-styled}
 pub use Rattle.text.proofs.Testing.{spells-decodes}
 use Rattle.text.specs.Characters.{AllGood}
-use Rattle.text.specs.Texts.{GoodText, Spells, Styled}
+use Rattle.text.specs.Texts.{GoodText, Styled}
 
 -- a good text's characters
 pub good-decodes : (bs : List ℕ) → GoodText bs → AllGood (chars bs)

@@ -1,5 +1,5 @@
 -- The nine acts, and the page that follows from each. Assumes nothing.
-use Rattle.std.specs.Prelude.{ℕ, zero, suc, ◌+◌, ◌-◌, ◌*◌, max, Bool, true, false, cond, ◌&&◌, ◌||◌, List, [], ◌++◌, length, take, drop, Some, None, Option, ◌==◌, nat_lt, slice_index}
+use Rattle.std.specs.Prelude.{ℕ, suc, ◌+◌, ◌-◌, ◌*◌, max, Bool, true, false, cond, ◌&&◌, ◌||◌, List, [], ◌++◌, length, take, drop, Some, None, Option, ◌==◌, nat_lt, slice_index}
 use Rattle.page.specs.Page.{Page, cursor_col, cursor_row, end_row}
 use Rattle.screen.specs.Screen.{Geometry, Paper, Screen, block, over, place_row}
 use Rattle.std.specs.List.{repeat}

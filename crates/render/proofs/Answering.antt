@@ -1,6 +1,5 @@
 -- What a highlighter answers behind what is composed.
-use Rattle.std.proofs.Common.{◌≡◌, ℕ, ◌+◌, ◌≤◌, true, List, length, take, is_some, Some, None, Option, refl, arith}
-use Rattle.buffer.proofs.Buffers.{length-spare}
+use Rattle.std.proofs.Common.{◌≡◌, ℕ, ◌≤◌, List, length, take, Some, None, Option}
 use Rattle.buffer.specs.Contents.{Writes, spare}
 use Rattle.highlight.specs.Answers.{Answers}
 use Rattle.render.specs.Composing.{composed}

@@ -1,14 +1,9 @@
 -- Drawings composed and written.
-use Rattle.std.proofs.Common.{◌≡◌, ℕ, ◌≤◌, Bool, List, [], ◌∷◌, ◌++◌, length, take, drop, Option, Result, sym, ap, ◌∙◌, subst, arith}
+use Rattle.std.proofs.Common.{◌≡◌, ℕ, ◌≤◌, List, [], ◌++◌, length, Option, sym, ap, ◌∙◌, arith}
 use Rattle.layout.specs.declared.block.Layout.{Layout}
-use Rattle.page.specs.Law.{Written}
-use Rattle.page.specs.Output.{framed}
-use Rattle.page.specs.declared.outcome.BrokenAct.{BrokenAct}
 use Rattle.render.proofs.Buffers.{push-length, push-push}
 use Rattle.render.proofs.Moves.{old-length, place-length}
-use Rattle.render.specs.Drawing.{AppendsTexts, Composes, Drew, Styles, draw_layout, old_rows, place_layout, styles_bytes}
-use Rattle.std.proofs.lemmas.List.{drop_at, take_at}
-use Rattle.terminal.specs.Answers.{WriteAnswer}
+use Rattle.render.specs.Drawing.{AppendsTexts, Composes, Styles, old_rows, place_layout, styles_bytes}
 
 -- the old block's rows come first
 module _ (o : Option Layout) (start one : List ℕ) (none : start ≡ []) (old : one ≡ start ++ old_rows o) where

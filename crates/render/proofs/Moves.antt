@@ -7,7 +7,6 @@ use Rattle.render.specs.Composing.{some_move}
 use Rattle.render.specs.Drawing.{erase_layout, old_rows, place_layout}
 use Rattle.screen.specs.Output.{closing, down_by, move_by, rows_up, shift_by, shift_from, to_column, up_by}
 use Rattle.std.proofs.lemmas.Fmt.{length-decimal-le}
-use Rattle.std.proofs.lemmas.Bool.{cond_above, cond_below}
 
 pub move-length : (b k n : ℕ) → 0 < k → n < 10 ^ k → n < 2 ^ 64 → length (move_by b n) ≤ k + 3
 move-length b k n some h small = omega (arith, length-append (decimal n) (b ∷ []), length-decimal-le k n some h small)

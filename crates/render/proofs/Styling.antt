@@ -1,5 +1,5 @@
 -- Texts behind what is composed, as they are or as a highlighter answers them.
-use Rattle.std.proofs.Common.{◌≡◌, ℕ, ◌+◌, ◌≤◌, true, List, ◌++◌, length, Some, None, Option, refl, subst, arith, length-append}
+use Rattle.std.proofs.Common.{◌≡◌, ℕ, ◌≤◌, true, List, ◌++◌, length, Some, None, Option, refl, subst, arith, length-append}
 use Rattle.lines.proofs.Buffers.{line-short}
 use Rattle.lines.proofs.Notes.{note-text}
 use Rattle.lines.proofs.Prompts.{raw-short}
@@ -9,7 +9,7 @@ use Rattle.lines.specs.Prompts.{raw_of, styled_of}
 use Rattle.lines.specs.declared.line_buffer.LineBuffer.{LineBuffer}
 use Rattle.lines.specs.declared.note.Note.{Note}
 use Rattle.lines.specs.declared.prompt.Prompt.{Prompt}
-use Rattle.render.proofs.Buffers.{push-length, push-three}
+use Rattle.render.proofs.Buffers.{push-three}
 use Rattle.render.specs.Drawing.{Appends, AppendsTexts, Coloured, NoteLit, Uncoloured, block_texts, note_bytes, texts_of}
 use Rattle.render.specs.declared.block.Block.{Block}
 use Rattle.highlight.specs.declared.highlight.Highlighter.{Ghosts}
