@@ -16,6 +16,7 @@ fn has_room(text: &[u8], out: &[u8]) -> bool
 }
 
 // An answer that grows from the front of the place that is lent for it.
+// A length stands beside that place, since there is no heap and the caller lends it.
 #[derive(Drop)]
 struct Answer<'a> {
     out: &'a mut [u8],

@@ -33,12 +33,12 @@ pub struct Bracket {
     pub at: usize,
 }
 
-impl Bracket {
-    // The bracket's number: 1 opening, 2 closing, 0 another byte.
-    pub fn number(self) -> u8
-        ensures { result ≡ bracket_number self }
-    {
-        match BracketKind::of(self.byte) {
+// The bracket's number: 1 opening, 2 closing, 0 another byte.
+impl From<Bracket> for u8 {
+    ghost from_gives = { λ bracket number. number ≡ bracket_number bracket };
+
+    fn from(bracket: Bracket) -> u8 {
+        match BracketKind::of(bracket.byte) {
             Some(BracketKind::Opening) => 1,
             Some(BracketKind::Closing) => 2,
             None => 0,
@@ -74,6 +74,7 @@ fn last_closing(line: &[u8]) -> Option<Bracket>
 }
 
 // The bracket under a position or one byte before it; at the end of the line or past it, a closing one that ends the line.
+// The project's form for this search is a loop that yields its answer by `break`.
 pub fn check_bracket(line: &[u8], pos: usize) -> Option<Bracket>
     ensures { result ≡ checked line.now pos }
 {

@@ -11,6 +11,7 @@ use widths::tables::WidthTable;
 pub fn fit_hint<W: WidthTable>(window: Window, ends: LineEnds, hint: &mut Note) -> Layout
     ensures { FitsHint W.WidthTable.columns window.prompt window.size ends (note_of hint.old) result (note_of hint.new) }
 {
+    // a match, since its second arm alters the hint: no plainer with a closure
     match window.compute_layout::<W>(ends, hint.get()) {
         Some(layout) => layout,
         None => {

@@ -19,7 +19,7 @@ pub struct LineEnds {
     pub end: Position,
 }
 
-// Where a text ends that is drawn from a place.
+// Where a text ends that is drawn from a place. A struct for place and columns is no plainer: each call has another place.
 pub fn walk_text<W: WidthTable>(from: Position, text: &[u8], cols: u16) -> Option<Position>
     ensures { Walks W.WidthTable.columns cols from text.now result }
 {

@@ -18,7 +18,7 @@ pub enum WriteError {
 // What a terminal answers to a write: the first bytes, so many of them, have worked, or why none has.
 pub type WriteAnswer = Result<usize, WriteError>;
 
-// An answer's number, 0 to 2.
+// An answer's number, 0 to 2. No `From` can say it: an answer is a type of the library.
 pub fn answer_number(answer: WriteAnswer) -> u8
     ensures { result ≡ answer_number answer }
 {

@@ -28,6 +28,7 @@ impl Layout {
 
     // The layout of three places that a walk has reached, the last one the block's end: none where the window does not
     // hold them in this order.
+    // No struct is plainer: the places are the layout's own fields, and the size is a type of a crate above this one.
     pub fn new(
         prompt_size: Position,
         cursor: Position,
