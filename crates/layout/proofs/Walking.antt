@@ -1,5 +1,5 @@
 -- A walk over a text, cluster by cluster. Assumes nothing.
-use Rattle.std.proofs.Common.{◌≡◌, ℕ, ◌+◌, ◌-◌, ◌<◌, ◌≤◌, ◌≢◌, Bool, true, eqb, ltb, leb, List, [], ◌∷◌, ◌++◌, length, drop, Some, None, Ok, Err, Result, IsUtf8, sym, refl, subst, ap, ◌∙◌, append_assoc, append-nil, arith, length-drop}
+use Rattle.std.proofs.Common.{◌≡◌, ℕ, ◌+◌, ◌-◌, ◌<◌, ◌≤◌, ◌≢◌, Bool, true, eqb, ltb, leb, List, [], ◌∷◌, ◌++◌, length, Some, None, Ok, Err, Result, IsUtf8, sym, refl, subst, ap, ◌∙◌, append_assoc, append-nil, arith, length-drop}
 use lib.Utf8.{encodes, scalars}
 use Rattle.std.proofs.lemmas.Bool.{and_parts, both_ways, cond_both, leb-true}
 use Rattle.std.proofs.lemmas.Str.{encodes-append, length-le-encodes}

@@ -7,7 +7,7 @@ use Rattle.measuring.proofs.Reaching.{some-none, some_same}
 use Rattle.measuring.specs.declared.measuring.LineEnds.{LineEnds}
 use Rattle.text.specs.Characters.{Good}
 use Rattle.measuring.specs.Measured.{Gives, Inserts, Measures, PromptAt, Repeats, Walks}
-use Rattle.page.proofs.Spelt.{cut-decodes, good-cut, good-times, insert-front, one-good}
+use Rattle.page.proofs.Spelt.{good-cut, good-times, insert-front, one-good}
 use Rattle.page.specs.Acts.{times}
 use Rattle.page.specs.Rules.{AtBoundary}
 use Rattle.screen.specs.Places.{top_left}

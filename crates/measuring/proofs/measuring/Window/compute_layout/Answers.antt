@@ -1,4 +1,4 @@
-use Rattle.std.proofs.Common.{refl, ap}
+use Rattle.std.proofs.Common.{ap}
 use Rattle.measuring.proofs.Fitting.{computes-some, computes_none}
 use Rattle.std.specs.Option.{option_map}
 use Rattle.measuring.proofs.measuring.Window.compute_layout.Goals.{in-Some+in_ok-end-in-Some, in-None}
