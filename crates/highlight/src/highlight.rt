@@ -16,6 +16,7 @@ pub enum CmdKind {
 }
 
 // A highlighter answers a text with a styled text that shows the same and is at most 256 bytes longer.
+// The caller lends the place for the answer, since there is no heap.
 pub trait Highlighter {
     // what it may answer for a line and a position
     ghost lights: { Self → List ℕ → ℕ → List ℕ → Type 0 };

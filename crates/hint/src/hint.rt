@@ -6,6 +6,7 @@ ghost use Rattle.hint.specs.Hints.{Hinted};
 pub const MAX_HINT: usize = 1024;
 
 // A hinter answers a good text of 1 to 1,024 bytes or none, always alike for a line and a position.
+// The caller lends the place for the answer, since there is no heap.
 pub trait Hinter {
     // what it answers for a line and a position
     ghost hints: { Self → List ℕ → ℕ → Maybe (List ℕ) };

@@ -77,6 +77,7 @@ impl Block<'_> {
 }
 
 // How a write ends, with its number where it breaks an act.
+// One `map_err`, so no plainer by way of the crate `render`, which numbers its writes so too.
 fn numbered(number: usize, ended: Result<(), BrokenWrite>) -> Result<(), BrokenAct>
     ensures { result ≡ numbered number ended }
 {
