@@ -7,7 +7,7 @@ mod spare;
 mod writing;
 
 // At most `N` bytes: those in the first `len` bytes of the memory.
-// A length stands beside it here alone: there is no heap below the programs, and a prompt is copied.
+// The length stands beside the memory, since there is no heap below the programs; a type of the kit's would be no `Copy`, as a prompt is.
 #[derive(Clone, Copy)]
 pub struct Buffer<const N: usize> {
     memory: [u8; N],

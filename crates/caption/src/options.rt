@@ -34,7 +34,7 @@ pub(crate) enum Valued {
 }
 
 impl Valued {
-    // The option that an argument names.
+    // The option that an argument names. No `FromStr`: an error would say no more than `None`.
     fn named(name: &str) -> Option<Valued> {
         Some(match name {
             "--columns" => Valued::Columns,

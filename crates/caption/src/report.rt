@@ -50,7 +50,7 @@ impl fmt::Display for Ending {
         write!(f, "{rows} {unit}, ends in row {row}, column {col}")?;
         match self.told.bracket {
             Some(bracket) if self.brackets => {
-                let sign = bracket.byte as char;
+                let sign = char::from(bracket.byte);
                 let at = bracket.at;
                 write!(f, "; lights {sign} at byte {at}")
             }
@@ -60,7 +60,7 @@ impl fmt::Display for Ending {
     }
 }
 
-// How many captions stand, how many are refused, and the height of the highest.
+// How many captions stand, how many are refused, and the height of the highest; of how many rows, the report adds.
 #[derive(Clone, Copy)]
 struct Tally {
     stand: u64,

@@ -19,17 +19,11 @@ fn number_with(number: u16, digit: u8) -> u16
         .min(9999)
 }
 
-// The bytes of `?2026`.
+// The bytes of `?2026`; from the last on it is the last one.
 fn mode_byte(k: u8) -> u8
     ensures { result ≡ mode_byte k }
 {
-    match k {
-        0 => b'?',
-        1 => b'2',
-        2 => b'0',
-        3 => b'2',
-        _ => b'6',
-    }
+    b"?2026"[usize::from(k.min(4))]
 }
 
 // What parameters amount to with one more byte.

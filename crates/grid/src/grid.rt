@@ -6,6 +6,7 @@ use screen::cells::{Cell, Parser};
 use terminal::size::Size;
 
 // A screen: the first `depth` rows of its paper stand in the cells, one after the other, and the rest of the paper is blank.
+// One vector and its depth, not a vector of rows: the cells are lent as one memory, and go back so.
 #[derive(Drop)]
 pub struct Grid<W> {
     pub(crate) cells: Vec<Cell>,

@@ -20,7 +20,7 @@ struct Begun {
 }
 
 impl<W: WidthTable> Grid<W> {
-    // A character of several bytes begins.
+    // A character of several bytes begins. (Its four numbers go no further together, so no struct is plainer.)
     fn start(&mut self, value: u8, left: u8, low: u8, high: u8)
         requires { sure (record { value = value; left = left; low = low; high = high }) ≡ true }
         ensures { Does (starts value left low high) self.old self.new }

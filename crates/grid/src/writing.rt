@@ -20,7 +20,7 @@ impl<W: WidthTable> Grid<W> {
         ensures count { result ≡ fitting (area W.WidthTable.columns self.old) self.old.depth bytes.now (shown self.old) }
         ensures drawn { Does (feed (area W.WidthTable.columns self.old) (take result bytes.now)) self.old self.new }
     {
-        // a loop: the closure of `position` would change the grid while it searches, and is no plainer
+        // a loop: tried `position`, whose closure changes the grid while it searches; the proof did not close
         for (i, byte) in bytes.iter().enumerate() {
             if let Err(Full) = self.step(*byte) {
                 return i;

@@ -30,6 +30,7 @@ pub struct Walk {
     pub escape: EscapeSequence,
 }
 
+// That the row is below 65,535 is asked of each step alone: a type for such rows would be taken apart at every step.
 impl Position {
     // Column 0 of the next row.
     fn next_row(self) -> Position

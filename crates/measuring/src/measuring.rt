@@ -20,6 +20,7 @@ pub struct LineEnds {
 }
 
 // Where a text ends that is drawn from a place. A struct for place and columns is no plainer: each call has another place.
+// Nor is a `Window` for these functions: its size would ask more of a caller than columns do.
 pub fn walk_text<W: WidthTable>(from: Position, text: &[u8], cols: u16) -> Option<Position>
     ensures { Walks W.WidthTable.columns cols from text.now result }
 {

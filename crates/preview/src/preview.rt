@@ -55,6 +55,7 @@ impl Block<'_> {
     fn plan<W: WidthTable>(&self, size: Size) -> Result<Preview, Refusal>
         ensures { Plans (geometry W.WidthTable.columns size) self.now.prompt.now self.now.caption.now result }
     {
+        // a place and a count, since there is no heap here; a `Prompt` of the crate `lines` would show it twice
         let mut visible = [0; MAX_PROMPT];
         let count = visible_prompt(self.prompt, &mut visible)?;
         check_text_within(self.caption, MAX_LINE)?;

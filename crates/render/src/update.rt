@@ -59,8 +59,8 @@ pub fn write_synchronized<T: Terminal>(
     write_framed(terminal, &[bytes], holds)
 }
 
-// A struct of the terminal and `holds` would be no plainer: with a `&mut` in it, each method has to keep its ghost name.
 // Writes some pieces, in an update of their own on a terminal that holds updates.
+// A struct of the terminal and `holds` would be no plainer: with a `&mut` in it, each method has to keep its ghost name.
 pub(crate) fn write_framed<T: Terminal>(
     terminal: &mut T,
     pieces: &[&[u8]],

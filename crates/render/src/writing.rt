@@ -1,4 +1,4 @@
-// Writes of one piece.
+// Writes of pieces.
 ghost use Rattle.std.specs.Prelude.{◌+◌, ◌^◌, ◌<◌, [], ◌∷◌, length};
 ghost use Rattle.page.specs.Law.{Written};
 ghost use Rattle.render.specs.Numbering.{FollowAll, Follows, bytes_of};

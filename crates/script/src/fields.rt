@@ -23,7 +23,7 @@ fn split_run(text: &[u8], blank: bool) -> (&[u8], &[u8])
     text.split_at(run_len(text, blank))
 }
 
-// How many bytes at a text's front are blanks, or are none, as is asked.
+// How many bytes at a text's front are blanks, or are none, as is asked: a closure for that would be called with one of two.
 fn run_len(text: &[u8], blank: bool) -> usize
     ensures { result ≡ length (run_of blank text.now) }
 {

@@ -11,7 +11,7 @@ pub enum NumberFault {
     Large,
 }
 
-// The number that a word of decimal digits says.
+// The number that a word of decimal digits says. Not `parse`, which takes a `+` too.
 pub fn read_number(word: &[u8]) -> Result<usize, NumberFault>
     ensures { Numbers word.now result }
 {

@@ -54,7 +54,7 @@ pub(crate) enum Setting {
 }
 
 impl Setting {
-    // The setting of that name.
+    // The setting of that name. No `FromStr`: an error would say no more than `None`.
     pub(crate) fn named(name: &str) -> Option<Setting> {
         Some(match name {
             "size" => Setting::Size,

@@ -23,7 +23,7 @@ impl Size {
     pub fn new(cols: u16, rows: u16) -> Result<Size, Refusal>
         ensures { MatchResult result (λ z. (z.cols ≡ cols) × (z.rows ≡ rows)) (λ e. (e ≡ Refusal.Size) × (proper cols rows ≡ false)) }
     {
-        if 2 <= cols && cols <= 500 && 1 <= rows && rows <= 200 {
+        if (2..=500).contains(&cols) && (1..=200).contains(&rows) {
             Ok(Size { cols, rows })
         } else {
             Err(Refusal::Size)

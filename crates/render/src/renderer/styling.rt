@@ -15,7 +15,6 @@ use lines::prompt::Prompt;
 
 impl PosixRenderer {
     // Puts a block's texts behind what is composed, with colours as a highlighter answers them.
-    // The room of 6,400 bytes is asked here and below: a type would carry no more than the number.
     pub(crate) fn push_styled_texts<H: Highlighter>(
         &mut self,
         block: &Block<'_>,

@@ -33,11 +33,6 @@ none-left n b e f = eqb-true n 0 (sym e ∙ f)
 pub loop-rest-init : goal.loop-rest-init
 loop-rest-init g c = record { count = 0; few = omega arith; left = refl; patient = lit< tt; sent = begun }
 
-pub loop-rest-smaller-in-Ok : goal.loop-rest-smaller-in-Ok
-loop-rest-smaller-in-Ok g c =
-    let within = (g.met.T.Terminal.works _ _ _ _ c.in-Ok.ensures).within in
-    omega (arith, within, c.loop-rest.invariant.patient, length-drop c.in-Ok.count c.loop-rest.rest.now)
-
 pub loop-rest-preserved-in-Ok : goal.loop-rest-preserved-in-Ok
 loop-rest-preserved-in-Ok g c =
     let said = c.in-Ok.ensures in
@@ -49,9 +44,6 @@ loop-rest-preserved g c =
     let said = c.in-Err-Interrupted.is ∙ ap Err (rw c.in-Err-Interrupted.is at c.in-Err-Interrupted.field-0-is) in
     going-on c.loop-rest.invariant (some-left _ _ c.is_empty.ensures c.loop-rest-test.true)
     (subst (λ a. g.T.Terminal.answered c.loop-rest.terminal c.loop-rest.rest.now a c.write-answer.new.self) said c.write-answer.ensures) (omega arith)
-
-pub overflow_sub-result : goal.overflow_sub-result
-overflow_sub-result g c = let h = c.loop-rest.invariant in omega (arith, ap length h.left, length-drop h.count c.args.bytes.now)
 
 pub returns-in-loop-rest : goal.returns-in-loop-rest
 returns-in-loop-rest g c =
