@@ -35,6 +35,7 @@ impl<T> fmt::Display for Row<'_, T> {
 }
 
 // Where a caption ends, and the bracket that lights, if it is asked for.
+// The flag is the user's: it says nothing of the value beside it.
 #[derive(Clone, Copy)]
 struct Ending {
     told: Preview,
