@@ -136,6 +136,7 @@ impl Unmatched {
 }
 
 // The partner of the opening bracket at `pos`, looked for towards the end of the line.
+// The project's form for this search walks the bytes of the rest of the line with their index.
 fn find_forward(line: &[u8], pos: usize, bracket: u8) -> Option<Bracket>
     requires within { pos < length line.now }
     requires opening { is_open bracket ≡ true }
