@@ -9,5 +9,5 @@ for crate in page session caption; do
         cp "unfinished/$crate/$file" "crates/$crate/${file%.txt}"
     done
 done
-below="text widths layout screen terminal highlight hint page lines measuring judging render"
+below="buffer text widths layout screen terminal highlight hint page lines measuring judging render"
 sed -i "/^session:/d; s/^caption: .*/session: $below\ncaption: $below grid faults script preview session/" crates.txt
