@@ -6,5 +6,4 @@ ghost use Rattle.worked.specs.Worked.{WorkedFacts};
 // At five columns behind the prompt `> `: where texts end, what acts write, which bracket is lit, and what bytes do to wide characters and marks.
 pub fn worked_facts()
     ensures { WorkedFacts }
-{
-}
+{}
