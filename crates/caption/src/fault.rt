@@ -1,5 +1,6 @@
 // Why the program ends with status 1.
 use crate::options::Valued;
+use script::error::ScriptError;
 use std::alloc::{AllocError, AllocFailed};
 use std::{fmt, io};
 
@@ -8,6 +9,7 @@ pub(crate) enum Fault {
     // no command, or one that is unknown
     Command,
     UnknownOption(String),
+    UnknownRunOption(String),
     MissingValue(Valued),
     // an option's value, which is no number from 0 to 65,535
     Number(Valued, String),
@@ -16,15 +18,25 @@ pub(crate) enum Fault {
     Prompt,
     Memory,
     Input(io::Error),
+    // the report of an act cannot be printed
+    Report,
+    // what is wrong in a script of acts
+    Script(ScriptError),
 }
 
 impl fmt::Display for Fault {
     fn fmt<W: fmt::Write>(&self, f: &mut fmt::Formatter<W>) -> fmt::Result {
         match self {
-            Fault::Command => f.write_str("the command is `preview`; `caption --help` tells more"),
+            Fault::Command => {
+                f.write_str("the command is `preview` or `run`; `caption --help` tells more")
+            }
             Fault::UnknownOption(name) => write!(
                 f,
-                "unknown option `{name}`; `caption --help` lists them"
+                "unknown option `{name}`; `caption preview --help` lists them"
+            ),
+            Fault::UnknownRunOption(name) => write!(
+                f,
+                "unknown option `{name}`; `caption run` takes none but `--help`"
             ),
             Fault::MissingValue(option) => write!(f, "`{option}` needs a value"),
             Fault::Number(option, value) => {
@@ -40,6 +52,8 @@ impl fmt::Display for Fault {
             ),
             Fault::Memory => f.write_str("out of memory"),
             Fault::Input(error) => write!(f, "{error}"),
+            Fault::Report => f.write_str("the report cannot be printed"),
+            Fault::Script(error) => write!(f, "{error}"),
         }
     }
 }
@@ -47,6 +61,12 @@ impl fmt::Display for Fault {
 impl From<io::Error> for Fault {
     fn from(error: io::Error) -> Fault {
         Fault::Input(error)
+    }
+}
+
+impl From<ScriptError> for Fault {
+    fn from(error: ScriptError) -> Fault {
+        Fault::Script(error)
     }
 }
 

@@ -27,8 +27,7 @@ line-place b = good-boundary (line_of b) b.pos b.front b.inside
 
 -- a text so many times, in the library's word
 pub times-repeat : (n : ℕ) (t : List ℕ) → repeat n t ≡ times n t
-times-repeat zero t = refl
-times-repeat (suc n) t = ap (λ x. t ++ x) (times-repeat n t)
+times-repeat n t = refl
 
 -- what a line buffer must know of a line and a position
 abbrev pub Sound : Buffer 4096 → ℕ → Type 0

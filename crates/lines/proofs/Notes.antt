@@ -7,8 +7,6 @@ use Rattle.hint.specs.Hints.{Hinted}
 use Rattle.lines.specs.Notes.{note_of}
 use Rattle.lines.specs.Stored.{stores_good}
 use Rattle.lines.specs.declared.note.Note.{Note}
-use Rattle.page.proofs.Computing.{good-bytes, good-text}
-use Rattle.page.specs.Computed.{good_bytes}
 use Rattle.std.specs.Option.{option_map}
 use Rattle.text.specs.Texts.{GoodText}
 

@@ -155,13 +155,6 @@ good-boundary l q h le = (le, good-text-utf8 (take q l) (good-text (take q l) h)
 pub good-front : (l : List ℕ) (q : ℕ) → good_bytes l ≡ true → AtBoundary l q → good_bytes (take q l) ≡ true
 good-front l q h b = good-bytes (take q l) (good-cut l q (good-text l h) b).0
 
-pub good-rest : (l : List ℕ) (q : ℕ) → good_bytes l ≡ true → AtBoundary l q → good_bytes (drop q l) ≡ true
-good-rest l q h b = good-bytes (drop q l) (good-cut l q (good-text l h) b).1
-
--- a good text shows its characters
-pub shown-plain : (bs : List ℕ) → good_bytes bs ≡ true → shown_by bs ≡ Some (chars bs)
-shown-plain bs h = shown_by_lem bs (chars bs) (styled-decodes bs (good-text bs h))
-
 pub shows-as-decides : (bs cs : List ℕ) → Decides (shows_as bs cs) (Styled bs cs)
 unfolding shows_as
 shows-as-decides bs cs = ((λ e. styled-text bs cs (shown (shown_by bs) e)), λ s. subst (λ o. same_characters o cs ≡ true) (sym (shown_by_lem bs cs s)) ((bytes_eq-Decides cs cs).1 refl))

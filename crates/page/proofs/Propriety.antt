@@ -88,11 +88,3 @@ module _ (d : Geometry) (prompt : List ℕ) where
       let f = fitted-is p.line r.hint g low in
       settled-proper (noted d prompt (fitted d prompt p.line r.hint) (fitted d prompt p.line r.hint) r.yes p)
       (record { line = l; place = b; note = λ t e. (f.good t e).0; hint = f.good; low = f.low; shown = shown; live = live })
-
-  -- a text that is not too tall
-  pub bare-low : (line : List ℕ) → (d.rows ≤ place_row d (block d (prompt ++ (chars line ++ chars []))) → ⊥) → Bare-low line
-  bare-low line h = subst (λ (x : List ℕ). place_row d (block d (prompt ++ (chars line ++ x))) < d.rows) chars-nil (go (cases_lt (place_row d (block d (prompt ++ (chars line ++ chars [])))) d.rows))
-    where
-      go : (place_row d (block d (prompt ++ (chars line ++ chars []))) < d.rows) ⊎ (d.rows ≤ place_row d (block d (prompt ++ (chars line ++ chars [])))) → place_row d (block d (prompt ++ (chars line ++ chars []))) < d.rows
-      go (inl x) = x
-      go (inr x) = absurd (h x)

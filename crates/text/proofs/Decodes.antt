@@ -2,6 +2,7 @@
 use Rattle.std.proofs.Common.{◌≡◌, ℕ, ◌<◌, ◌≤◌, true, List, [], ◌∷◌, ◌++◌, length, get_or, take, drop, Some, None, Option, IsUtf8, sym, refl, ap, ◌∙◌, subst, ⊎_elim, arith, length-append, length-drop}
 use lib.Utf8.{encode, scalar}
 use Rattle.std.proofs.lemmas.Bool.{cases_lt}
+use Rattle.std.proofs.Math.Utf8.{low_scalar}
 use Rattle.std.proofs.lemmas.List.{take_at}
 use Rattle.std.proofs.lemmas.Str.{encode_same, length-encode, len_utf8_bounds, IsUtf8-encode}
 use Rattle.std.proofs.str.Laws.{one, two, three, four}
@@ -38,6 +39,11 @@ first_byte c bs rest e = by (encode c) (omega (arith, length-encode c, len_utf8_
     by [] h = absurd (omega arith)
     by (x ∷ xs) h = refl
 
+-- a byte below 128 is a character by itself
+pub plain-front : (bs : List ℕ) (c : ℕ) → 1 ≤ length bs → c ≡ get_or bs 0 0 → c < 128 → Front bs (record { code = c; len = 1 })
+plain-front [] c h e l = absurd (omega arith)
+plain-front (b ∷ bs) c h e l =
+    subst (λ x. Front (x ∷ bs) (record { code = c; len = 1 })) e (record { valid = low_scalar c (omega arith); bytes = ap (λ cs. cs ++ bs) (sym (one c l)); len = ap length (sym (one c l)) })
 module _ (bs : List ℕ) where
   pub no-lead : length bs ≡ 0 → NoCharacter bs
   no-lead h c rest s e = omega (arith, ap length e, length-append (encode c) rest, length-encode c, len_utf8_bounds c)

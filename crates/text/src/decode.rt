@@ -39,7 +39,11 @@ pub fn char_at(bytes: &[u8], at: usize) -> Option<Decoded>
 pub(crate) fn first_char(bytes: &[u8]) -> Option<Decoded>
     ensures { Decodes bytes.now result }
 {
-    let len = char_len(*bytes.first()?);
+    let lead = *bytes.first()?;
+    if lead < 0x80 {
+        return Some(Decoded { code: char::from(lead), len: 1 });
+    }
+    let len = char_len(lead);
     let text = from_utf8(bytes.get(..len)?).ok()?;
     let code = text.chars().next()?;
     Some(Decoded { code, len })

@@ -14,8 +14,3 @@ pub returns-in_err-place : goal.returns-in_err-place
 returns-in_err-place g c =
     rw c.from_residual.ensures
     (repeats-stuck g.W.WidthTable.columns g.met.W.WidthTable.narrow c.args.cols c.args.from c.args.text.now c.loop.counter c.args.count c.loop.place c.loop-test.true c.loop.invariant c.in_err-place.ensures)
-
-pub returns : goal.returns
-returns g c =
-    let all : c.loop.counter ≡ c.args.count = omega arith in
-    subst (λ (n : ℕ). Repeats g.W.WidthTable.columns c.args.cols c.args.from c.args.text.now n (Some c.loop.place)) all c.loop.invariant

@@ -12,8 +12,3 @@ returns-in_err-found c = rw c.from_residual.ensures (no-piece c.args.bytes.now c
 
 pub returns : goal.returns
 returns c = let e = c.split_at.ensures.front in let f = c.split_at.ensures.back in rw (e, f) (piece-char c.args.bytes.now c.in_ok-found.found c.in_ok-found.ensures)
-
-pub split_at-requires : goal.split_at-requires
-split_at-requires c =
-    let h = char-within c.args.bytes.now 0 (Some c.in_ok-found.found) (omega arith) c.in_ok-found.ensures.1 in
-    omega (arith, h.2)
