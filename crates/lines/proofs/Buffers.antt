@@ -1,18 +1,19 @@
 -- What always holds of a line buffer, and what a change leaves.
-use Rattle.std.proofs.Common.{◌≡◌, ℕ, zero, suc, ◌+◌, ◌*◌, ◌≤◌, true, List, [], ◌++◌, length, take, drop, refl, sym, ap, ◌∙◌, subst, arith, length-append, length-drop}
+use Rattle.std.proofs.Common.{◌≡◌, ℕ, ◌+◌, ◌*◌, ◌≤◌, true, List, [], ◌++◌, length, take, drop, refl, sym, ap, ◌∙◌, subst, arith, length-append, length-drop}
 use Rattle.buffer.proofs.Buffers.{contents-short}
 use Rattle.buffer.proofs.Repeats.{length-repeat}
 use Rattle.buffer.specs.Contents.{contents}
 use Rattle.buffer.specs.declared.buffer.Buffer.{Buffer}
 use Rattle.lines.specs.Lines.{line_of}
 use Rattle.lines.specs.declared.line_buffer.LineBuffer.{LineBuffer}
-use Rattle.page.proofs.Computing.{good-boundary, good-bytes, good-front, good-text}
+use Rattle.page.proofs.Computing.{good-boundary, good-front}
 use Rattle.page.proofs.Spelt.{good_none, insert-boundary, insert-good, one-good}
 use Rattle.page.specs.Acts.{times}
-use Rattle.page.specs.Computed.{good_bytes}
 use Rattle.page.specs.Rules.{AtBoundary, OneCharacter}
 use Rattle.std.proofs.lemmas.List.{length-take-le}
 use Rattle.std.specs.List.{repeat}
+use Rattle.text.proofs.Testing.{good-bytes, good-text}
+use Rattle.text.specs.Tests.{good_bytes}
 use Rattle.text.specs.Texts.{GoodText}
 
 pub line-short : (b : LineBuffer) → length (line_of b) ≤ 4096

@@ -8,6 +8,8 @@ use Rattle.lines.specs.Notes.{note_of}
 use Rattle.lines.specs.Stored.{stores_good}
 use Rattle.lines.specs.declared.note.Note.{Note}
 use Rattle.std.specs.Option.{option_map}
+use Rattle.text.proofs.Testing.{good-bytes, good-text}
+use Rattle.text.specs.Tests.{good_bytes}
 use Rattle.text.specs.Texts.{GoodText}
 
 -- a good text of at most 1,024 bytes

@@ -2,7 +2,7 @@
 use Rattle.std.specs.Prelude.{ℕ, Bool, true, Some, None, Option}
 use Rattle.buffer.specs.Contents.{contents}
 use Rattle.buffer.specs.declared.buffer.Buffer.{Buffer}
-use Rattle.page.specs.Computed.{good_bytes}
+use Rattle.text.specs.Tests.{good_bytes}
 
 -- none, or a good text
 abbrev pub stores_good : {N : ℕ} → Option (Buffer N) → Bool

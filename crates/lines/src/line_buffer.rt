@@ -1,7 +1,7 @@
 // The line of a session, and the edit position in it.
 ghost use Rattle.std.specs.Prelude.{◌≡◌, ◌≤◌, true, length, take};
 ghost use Rattle.buffer.specs.Contents.{contents};
-ghost use Rattle.page.specs.Computed.{good_bytes};
+ghost use Rattle.text.specs.Tests.{good_bytes};
 
 use buffer::buffer::Buffer;
 

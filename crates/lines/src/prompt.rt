@@ -1,8 +1,9 @@
 // A prompt in two forms, raw and styled, and the text that both show.
 ghost use Rattle.std.specs.Prelude.{◌≡◌, true};
 ghost use Rattle.buffer.specs.Contents.{contents};
-ghost use Rattle.page.specs.Computed.{good_bytes, shows_as};
+ghost use Rattle.page.specs.Computed.{shows_as};
 ghost use Rattle.std.specs.Str.{chars};
+ghost use Rattle.text.specs.Tests.{good_bytes};
 
 use buffer::buffer::Buffer;
 

@@ -44,6 +44,7 @@ pub plain-front : (bs : List ℕ) (c : ℕ) → 1 ≤ length bs → c ≡ get_or
 plain-front [] c h e l = absurd (omega arith)
 plain-front (b ∷ bs) c h e l =
     subst (λ x. Front (x ∷ bs) (record { code = c; len = 1 })) e (record { valid = low_scalar c (omega arith); bytes = ap (λ cs. cs ++ bs) (sym (one c l)); len = ap length (sym (one c l)) })
+
 module _ (bs : List ℕ) where
   pub no-lead : length bs ≡ 0 → NoCharacter bs
   no-lead h c rest s e = omega (arith, ap length e, length-append (encode c) rest, length-encode c, len_utf8_bounds c)

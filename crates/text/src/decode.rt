@@ -41,7 +41,10 @@ pub(crate) fn first_char(bytes: &[u8]) -> Option<Decoded>
 {
     let lead = *bytes.first()?;
     if lead < 0x80 {
-        return Some(Decoded { code: char::from(lead), len: 1 });
+        return Some(Decoded {
+            code: char::from(lead),
+            len: 1,
+        });
     }
     let len = char_len(lead);
     let text = from_utf8(bytes.get(..len)?).ok()?;

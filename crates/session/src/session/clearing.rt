@@ -24,7 +24,7 @@ use terminal::terminal::Terminal;
 
 impl Session {
     // Blanks the window and draws the line from its first place, which mends a torn session.
-    pub(crate) fn clear<T: Terminal, H: Highlighter, N: Hinter>(
+    pub fn clear<T: Terminal, H: Highlighter, N: Hinter>(
         &mut self,
         tables: &mut Tables,
         terminal: &mut T,

@@ -17,7 +17,7 @@ use text::refusal::Refusal;
 
 impl Session {
     // Makes a session of a setup and draws its empty line; it is made where that is refused too.
-    pub(crate) fn create<T: Terminal, H: Highlighter, N: Hinter>(
+    pub fn create<T: Terminal, H: Highlighter, N: Hinter>(
         setup: &Setup,
         tables: &mut Tables,
         terminal: &mut T,

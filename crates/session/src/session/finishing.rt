@@ -30,7 +30,7 @@ impl Session {
     }
 
     // Leaves the block on the screen with the cursor below it, and uses the session up; not accepted, it is handed back.
-    pub(crate) fn finish<T: Terminal, H: Highlighter>(
+    pub fn finish<T: Terminal, H: Highlighter>(
         self,
         tables: &mut Tables,
         terminal: &mut T,

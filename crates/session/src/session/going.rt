@@ -98,7 +98,7 @@ impl Session {
     }
 
     // Takes another edit position.
-    pub(crate) fn go<T: Terminal, H: Highlighter>(
+    pub fn go<T: Terminal, H: Highlighter>(
         &mut self,
         tables: &mut Tables,
         terminal: &mut T,

@@ -12,7 +12,7 @@ use terminal::terminal::Terminal;
 
 impl Session {
     // Draws the line anew with a message below it, and forgets the hint.
-    pub(crate) fn message<T: Terminal, H: Highlighter>(
+    pub fn message<T: Terminal, H: Highlighter>(
         &mut self,
         tables: &mut Tables,
         terminal: &mut T,

@@ -60,7 +60,7 @@ impl Session {
     }
 
     // Prints a notice above the block.
-    pub(crate) fn notice<T: Terminal, H: Highlighter>(
+    pub fn notice<T: Terminal, H: Highlighter>(
         &mut self,
         tables: &mut Tables,
         terminal: &mut T,

@@ -36,7 +36,7 @@ impl Session {
     }
 
     // Draws the line anew.
-    pub(crate) fn refresh<T: Terminal, H: Highlighter, N: Hinter>(
+    pub fn refresh<T: Terminal, H: Highlighter, N: Hinter>(
         &mut self,
         tables: &mut Tables,
         terminal: &mut T,
@@ -50,7 +50,7 @@ impl Session {
     }
 
     // Takes another line and position.
-    pub(crate) fn set<T: Terminal, H: Highlighter, N: Hinter>(
+    pub fn set<T: Terminal, H: Highlighter, N: Hinter>(
         &mut self,
         tables: &mut Tables,
         terminal: &mut T,

@@ -64,7 +64,7 @@ impl Session {
     }
 
     // Puts a character so many times before the edit position.
-    pub(crate) fn insert<T: Terminal, H: Highlighter, N: Hinter>(
+    pub fn insert<T: Terminal, H: Highlighter, N: Hinter>(
         &mut self,
         tables: &mut Tables,
         terminal: &mut T,

@@ -1,7 +1,7 @@
 use Rattle.std.proofs.Common.{ap, ◌∙◌}
 use Rattle.lines.proofs.Rules.{note-fine}
-use Rattle.page.proofs.Computing.{good-bytes}
-use Rattle.page.specs.Computed.{good_bytes}
+use Rattle.text.proofs.Testing.{good-bytes}
+use Rattle.text.specs.Tests.{good_bytes}
 use Rattle.lines.proofs.note.Note.set.Goals as goal
 
 pub invariant_of-self : goal.invariant_of-self

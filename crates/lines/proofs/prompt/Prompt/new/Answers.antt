@@ -1,7 +1,7 @@
 use Rattle.std.proofs.Common.{refl, sym, ◌∙◌}
 use Rattle.buffer.specs.Contents.{contents}
 use Rattle.lines.proofs.Forms.{Agreed, agreed, ne-false, ne-true, shown-apart, shown-as}
-use Rattle.page.proofs.Computing.{good-bytes}
+use Rattle.text.proofs.Testing.{good-bytes}
 use Rattle.lines.proofs.prompt.Prompt.new.Goals as goal
 use Rattle.lines.proofs.prompt.Prompt.new.Goals.{After-unwrap-2}
 
