@@ -18,7 +18,7 @@ or-false : (b c : Bool) → (b || c) ≡ false → (b ≡ false) × (c ≡ false
 or-false true c e = absurd (clash (sym e))
 or-false false c e = (refl, e)
 
-twice-not : (b : Bool) → b ≡ not (not b)
+pub twice-not : (b : Bool) → b ≡ not (not b)
 twice-not true = refl
 twice-not false = refl
 
@@ -58,11 +58,11 @@ module _ {T H : Type 0} (w : World T H) (z : Settings) where
       (c.0, (λ y. absurd (clash (sym k.0 ∙ y))), continues-more es e c.2 k.1 b)
 
   -- a session after create
-  pub history-none : (t : T) (h : H) (o : Outcome) (n : Moment T H) → Stepped w z (beginning t h) create o n → History w z t h [] true n
+  unfoldable pub history-none : (t : T) (h : H) (o : Outcome) (n : Moment T H) → Stepped w z (beginning t h) create o n → History w z t h [] true n
   history-none t h o n s = record { first = record { act = create; outcome = o; after = n }; others = []; creates = refl; does = refl; linked = (s, tt); continues = tt; ended = refl; leaves = refl }
 
   -- and after one more act
-  pub history-more : (t : T) (h : H) (acts : List Act) (m n : Moment T H) (a : Act) (o : Outcome) → History w z t h acts true m → begins a ≡ false → Stepped w z m a o n → History w z t h (acts ++ (a ∷ [])) (not (closes a o)) n
+  unfoldable pub history-more : (t : T) (h : H) (acts : List Act) (m n : Moment T H) (a : Act) (o : Outcome) → History w z t h acts true m → begins a ≡ false → Stepped w z m a o n → History w z t h (acts ++ (a ∷ [])) (not (closes a o)) n
   history-more t h acts m n a o y b s =
       let e : Entry T H = record { act = a; outcome = o; after = n } in
       record {
@@ -118,7 +118,7 @@ module _ {T H : Type 0} (w : World T H) (z : Settings) where
         subst (λ (x : Moment T H). Ready (w.screen x.terminal)) y.leaves ((ran-law t h acts false m y b p).ready (finishes-ended y.others y.first.after y.linked.1 y.continues y.ended))
 
     -- a session whose acts are a front of the given ones is a run
-    pub ran : (t : T) (h : H) (acts done left : List Act) (alive : Bool) (m : Moment T H) → z.begun ≡ w.extent t → acts ≡ done ++ left → (alive ≡ true → left ≡ []) → History w z t h done alive m → Ran w z t h acts alive m.terminal m.highlighter
+    unfoldable pub ran : (t : T) (h : H) (acts done left : List Act) (alive : Bool) (m : Moment T H) → z.begun ≡ w.extent t → acts ≡ done ++ left → (alive ≡ true → left ≡ []) → History w z t h done alive m → Ran w z t h acts alive m.terminal m.highlighter
     ran t h acts done left alive m b g r y =
         record {
           begun = b;

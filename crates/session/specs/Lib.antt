@@ -14,6 +14,7 @@ pub mod Clearing
 pub mod Typing
 pub mod Deeds
 pub mod Running
+pub mod Observing
 pub mod Creating
 pub mod Finishing
 pub mod Noticing

@@ -6,5 +6,5 @@ use Rattle.session.specs.Deeds.{deeds}
 
 abbrev pub invariant-loop-act : goal.invariant-loop-act
 invariant-loop-act g l =
-    Onward (world_of g.T.Terminal.screen g.T.Terminal.extent g.T.Terminal.answered g.T.Widths.WidthTable.columns g.H.Highlighter.lights g.H.Highlighter.lights_prompt g.H.Highlighter.lights_hint g.H.Highlighter.heeds (g.N.Hinter.hints l.hinter))
-    (state_of l.initial.terminal l.initial.highlighter l.initial.session l.initial.tables) (state_of l.terminal l.highlighter l.session l.tables) (deeds (take l.act-index l.acts))
+    Onward g.O.Observer.told (world_of g.T.Terminal.screen g.T.Terminal.extent g.T.Terminal.answered g.T.Widths.WidthTable.columns g.H.Highlighter.lights g.H.Highlighter.lights_prompt g.H.Highlighter.lights_hint g.H.Highlighter.heeds (g.N.Hinter.hints l.hinter))
+    (state_of l.initial.terminal l.initial.highlighter l.initial.session l.initial.tables) (state_of l.terminal l.highlighter l.session l.tables) l.initial.observer l.observer (deeds (take l.act-index l.acts))
