@@ -68,6 +68,9 @@ impl Reporter {
 }
 
 impl<S: Visible> Observer<S> for Reporter {
+    // what is printed is free
+    ghost told = { λ before terminal act outcome torn after. Unit {0} };
+
     fn created(&mut self, terminal: &S, outcome: Result<(), Rejection>, torn: bool) {
         self.report(terminal, "create", outcome, torn);
     }

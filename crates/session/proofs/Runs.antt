@@ -86,7 +86,7 @@ module _ {T H O : Type 0} (told : O → T → Act → Outcome → Bool → O →
     unfolding ran
     observed done left alive m p given whole past = record {
       ran = ran w z meant (raw-shown setup.prompt) (styled-shown setup.prompt) t h (deeds acts) done left alive m refl given whole past.history;
-      told = past.heard;
+      heard = past.heard;
     }
 
     -- all acts are done

@@ -14,4 +14,4 @@ module _ {T H O : Type 0} (told : O → T → Act → Outcome → Bool → O →
   -- a run, and an observer told of each of its acts
   pub record Observed (w : World T H) (z : Settings) (t : T) (h : H) (acts : List Act) (alive : Bool) (u : T) (k : H) (o p : O) : Type 0 where
     pub ran : Ran w z t h acts alive u k
-    pub told : Told o (ran.history.first ∷ ran.history.others) p
+    pub heard : Told o (ran.history.first ∷ ran.history.others) p

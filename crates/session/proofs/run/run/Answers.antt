@@ -23,7 +23,7 @@ pub loop-act-preserved : goal.loop-act-preserved
 loop-act-preserved g c =
     onward-kept g.O.Observer.told (world_of g.T.Terminal.screen g.T.Terminal.extent g.T.Terminal.answered g.T.Widths.WidthTable.columns g.H.Highlighter.lights g.H.Highlighter.lights_prompt g.H.Highlighter.lights_hint g.H.Highlighter.heeds (g.N.Hinter.hints c.args.hinter.now))
     (state_of c.create-outcome.new.terminal c.create-outcome.new.highlighter c.create-outcome.result.0 c.create-outcome.new.tables) (state_of c.loop-act.terminal c.loop-act.highlighter c.loop-act.session c.loop-act.tables) c.created.new.self c.loop-act.observer c.args.acts.now c.loop-act.act-index _ c.loop-act-test.true c.loop-act.invariant
-    c.perform-left.result.0 c.perform-left.result.1 c.perform-left.new.terminal c.perform-left.new.highlighter c.in-Some.next c.perform-left.new.tables c.acted.new.self c.perform-left.ensures c.in-Some.is c.acted.ensures
+    c.perform-left.result.0 c.perform-left.result.1 c.perform-left.new.terminal c.perform-left.new.highlighter c.in-Some.next c.perform-left.new.tables c.acted.new.self c.perform-left.ensures c.in-Some.is (rw c.is_torn-in-Some.ensures at c.acted.ensures)
 
 pub returns : goal.returns
 returns g c = record {
