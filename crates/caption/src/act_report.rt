@@ -4,7 +4,7 @@ use crate::fault::Fault;
 use crate::screen_report::print_screen;
 use crate::visible::Visible;
 use page::outcome::Rejection;
-use session::act::Act;
+use running::act::Act;
 use std::io::Write;
 use terminal::size::Size;
 use terminal::terminal::{WriteAnswer, WriteError};

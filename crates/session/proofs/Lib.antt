@@ -11,13 +11,10 @@ pub mod Clearing
 pub mod Creating
 pub mod Anew
 pub mod Letters
-pub mod Histories
-pub mod Meanings
 pub mod Painting
 pub mod Messaging
 pub mod Going
 pub mod Moving
 pub mod Finishing
 pub mod Noticing
-pub mod Runs
 pub mod Sameness

@@ -30,10 +30,13 @@ pub record Left {T : Type 0} (answered : T → List ℕ → WriteAnswer → T �
   pub texts : SameTexts b c
 
 module _ {T H : Type 0} (w : World T H) where
-  -- an accepted finish: the last step of a run, to the page with the cursor below its block
+  -- an accepted finish: a step of a run to the page with its cursor below the block
+  abbrev pub Ended : State T H → T → H → Type 0
+  Ended x t h = Sound w.columns x.session x.tables → (v : View) → Stepped w (settings_of x.session x.tables) (moment_of x v) finish (Ok tt) (record { terminal = t; highlighter = h; page = closed (geometry w.columns x.session.size) (prompt_of x.tables) (page_of x.session x.tables v); torn = false })
+
+  -- the highlighter is not asked, and the texts stay
   pub record Finished (x : State T H) (t : T) (c : Tables) : Type 0 where
-    pub steps : Sound w.columns x.session x.tables → (v : View)
-        → Stepped w (settings_of x.session x.tables) (moment_of x v) finish (Ok tt) (record { terminal = t; highlighter = x.highlighter; page = closed (geometry w.columns x.session.size) (prompt_of x.tables) (page_of x.session x.tables v); torn = false })
+    pub steps : Ended x t x.highlighter
     pub texts : SameTexts x.tables c
 
   -- accepted it uses the session up; else the session is handed back

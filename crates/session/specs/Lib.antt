@@ -12,9 +12,6 @@ pub mod Checking
 pub mod Tabled
 pub mod Clearing
 pub mod Typing
-pub mod Deeds
-pub mod Running
-pub mod Observing
 pub mod Creating
 pub mod Finishing
 pub mod Noticing

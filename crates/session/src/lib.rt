@@ -1,8 +1,6 @@
-//! A captioner's session: what it is created from, its acts, and runs of them.
+//! A captioner's session: what it is created from, and its acts.
 #![tactic(auto)]
 
-pub mod act;
-pub mod run;
 pub mod session;
 pub mod setup;
 pub mod standing;

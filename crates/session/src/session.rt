@@ -13,9 +13,9 @@ mod going;
 mod messaging;
 mod noticing;
 mod painting;
-mod performing;
 mod permitting;
 mod preparing;
+mod reading;
 mod refreshing;
 mod typing;
 

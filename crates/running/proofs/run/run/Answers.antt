@@ -1,6 +1,6 @@
-use Rattle.session.proofs.Meanings.{meant}
-use Rattle.session.proofs.Runs.{kept-over, onward-kept, onward-none, ran-closed, ran-over}
-use Rattle.session.proofs.run.run.Goals as goal
+use Rattle.running.proofs.Meanings.{meant}
+use Rattle.running.proofs.Runs.{kept-over, onward-kept, onward-none, ran-closed, ran-over}
+use Rattle.running.proofs.run.run.Goals as goal
 use Rattle.session.specs.Acting.{state_of, world_of}
 
 pub loop-act-init : goal.loop-act-init

@@ -7,16 +7,17 @@ use Rattle.page.specs.Law.{Moment, Settings, World}
 use Rattle.page.specs.Meaning.{Meant}
 use Rattle.page.specs.Rules.{Outcome}
 use Rattle.page.specs.Runs.{begins, closes}
-use Rattle.session.proofs.Histories.{Lasting, acted-history, ended-history, lasting-none}
-use Rattle.session.proofs.Meanings.{raw-shown, styled-shown}
+use Rattle.running.proofs.Histories.{Lasting, acted-history, ended-history, lasting-none}
+use Rattle.running.proofs.Meanings.{raw-shown, styled-shown}
 use Rattle.session.specs.Acting.{Acted, state_of}
 use Rattle.session.specs.Creating.{Created, settled_by}
-use Rattle.session.specs.Deeds.{deed, deeds}
-use Rattle.session.specs.Observing.{Observed}
-use Rattle.session.specs.Running.{Ended, Kept, Performed}
+use Rattle.running.specs.Deeds.{deed, deeds}
+use Rattle.running.specs.Observing.{Observed}
+use Rattle.running.specs.Running.{Kept, Performed}
+use Rattle.session.specs.Finishing.{Ended}
 use Rattle.session.specs.Sessions.{Sound, State, View, is_torn, moment_of, page_of, prompt_of, settings_of}
-use Rattle.session.specs.declared.act.Act as declared
-use Rattle.session.specs.declared.act.Act.TheVariants as act
+use Rattle.running.specs.declared.act.Act as declared
+use Rattle.running.specs.declared.act.Act.TheVariants as act
 use Rattle.session.specs.declared.session.Session.{Session}
 use Rattle.session.specs.declared.setup.Setup.{Setup}
 use Rattle.session.specs.declared.tables.Tables.{Tables}

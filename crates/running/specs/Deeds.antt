@@ -1,8 +1,8 @@
 -- The acts of a run by the law's words. Assumes nothing.
 use Rattle.std.specs.Prelude.{List, [], ◌∷◌}
 use Rattle.page.specs.Acts.{Act, clear, finish, go, insert, message, notice, refresh, set}
-use Rattle.session.specs.declared.act.Act.TheVariants as act
-use Rattle.session.specs.declared.act.Act as declared
+use Rattle.running.specs.declared.act.Act.TheVariants as act
+use Rattle.running.specs.declared.act.Act as declared
 
 -- an act's meaning
 abbrev pub deed : declared.Act → Act

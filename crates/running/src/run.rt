@@ -4,17 +4,18 @@ ghost use Rattle.page.specs.Acts.{Act as Deed, create};
 ghost use Rattle.page.specs.Rules.{Outcome};
 ghost use Rattle.session.specs.Acting.{world_of};
 ghost use Rattle.session.specs.Creating.{settled_by};
-ghost use Rattle.session.specs.Deeds.{deed, deeds};
-ghost use Rattle.session.specs.Observing.{Observed};
-ghost use Rattle.session.specs.Running.{Kept};
+ghost use Rattle.running.specs.Deeds.{deed, deeds};
+ghost use Rattle.running.specs.Observing.{Observed};
+ghost use Rattle.running.specs.Running.{Kept};
 
 use crate::act::Act;
-use crate::session::Session;
-use crate::setup::Setup;
-use crate::tables::Tables;
+use crate::performing::perform;
 use highlight::highlight::Highlighter;
 use hint::hint::Hinter;
 use page::outcome::Rejection;
+use session::session::Session;
+use session::setup::Setup;
+use session::tables::Tables;
 use terminal::terminal::Terminal;
 
 // Who is told after each act: the terminal as it is, the act, how it ended, and whether the session is torn.
@@ -46,7 +47,7 @@ pub fn run<T: Terminal, H: Highlighter, N: Hinter, O: Observer<T>>(
     observer.created(terminal, outcome, first.is_torn());
     let mut session = first;
     for act in acts {
-        let (left, outcome) = session.perform(tables, terminal, highlighter, hinter, act);
+        let (left, outcome) = perform(session, tables, terminal, highlighter, hinter, act);
         match left {
             Some(next) => {
                 observer.acted(terminal, act, outcome, next.is_torn());

@@ -1,8 +1,8 @@
 use Rattle.std.proofs.Common.{take}
-use Rattle.session.proofs.Runs.{Onward}
-use Rattle.session.proofs.run.run.Given as goal
+use Rattle.running.proofs.Runs.{Onward}
+use Rattle.running.proofs.run.run.Given as goal
 use Rattle.session.specs.Acting.{state_of, world_of}
-use Rattle.session.specs.Deeds.{deeds}
+use Rattle.running.specs.Deeds.{deeds}
 
 abbrev pub invariant-loop-act : goal.invariant-loop-act
 invariant-loop-act g l =

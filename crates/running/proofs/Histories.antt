@@ -6,8 +6,8 @@ use Rattle.page.specs.Law.{Entry, Moment, Settings, Stepped, World}
 use Rattle.page.specs.Rules.{Outcome}
 use Rattle.page.specs.Runs.{History, beginning, begins, closes}
 use Rattle.session.specs.Acting.{Acted}
-use Rattle.session.specs.Observing.{Told}
-use Rattle.session.specs.Running.{Ended}
+use Rattle.running.specs.Observing.{Told}
+use Rattle.session.specs.Finishing.{Ended}
 use Rattle.session.specs.Sessions.{Sound, State, View, is_torn, moment_of, page_of, prompt_of, settings_of}
 use Rattle.terminal.specs.Windows.{geometry}
 
