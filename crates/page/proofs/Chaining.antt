@@ -87,7 +87,7 @@ module _ {T H : Type 0} (w : World T H) (z : Settings) (meant : Meant w) (raw_sh
   not-refused (Err (Broke b)) d x e = let q : ◌≡◌ {A = ℕ} 0 1 = cc in omega arith
 
   pub law-of-chains : LawOfChains w z
-  law-of-chains m e es size begun ready b made l c =
+  law-of-chains m e es size ready b made l c =
       let n = create-sane w z meant raw_shown styled_shown m e.after e.outcome size ready (not-refused e.outcome made) (subst (λ a. Stepped w z m a e.outcome e.after) (begins-is e.act b) l.0) in
       let h = chain-holds es e.after n l.1 c in
       record { lived = (record { step = l.0; shown = n.shown; tears = step-tears w z m e.after e.act e.outcome l.0 }, h.lived); ready = h.ready }

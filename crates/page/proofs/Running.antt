@@ -110,7 +110,7 @@ module _ {T H : Type 0} (w : World T H) (z : Settings) where
     pub ran-law : (t : T) (h : H) (acts : List Act) (alive : Bool) (m : Moment T H) (y : History w z t h acts alive m) → z.begun ≡ w.extent t → Prepared w z t → Holds w z (beginning t h) (y.first ∷ y.others)
     ran-law t h acts alive m y b p =
         let s : Stepped w z (beginning t h) create y.first.outcome y.first.after = subst (λ a. Stepped w z (beginning t h) a y.first.outcome y.first.after) y.creates y.linked.0 in
-        law-of-chains w z meant raw_shown styled_shown (beginning t h) y.first y.others p.size (b ∙ p.size) p.ready (ap begins y.creates)
+        law-of-chains w z meant raw_shown styled_shown (beginning t h) y.first y.others p.size p.ready (ap begins y.creates)
         (create-made t h y.first.outcome y.first.after b p s) y.linked y.continues
 
     pub ran-ready : (t : T) (h : H) (acts : List Act) (m : Moment T H) → History w z t h acts false m → z.begun ≡ w.extent t → Prepared w z t → Ready (w.screen m.terminal)

@@ -81,7 +81,7 @@ module _ {T H : Type 0} (w : World T H) (z : Settings) where
   -- the law of every chain of steps that begins with create on a ready terminal of the checked size
   abbrev pub LawOfChains : Type 0
   LawOfChains = (m : Moment T H) (e : Entry T H) (es : List (Entry T H))
-      → w.extent m.terminal ≡ z.size → z.begun ≡ z.size → Ready (w.screen m.terminal)
+      → w.extent m.terminal ≡ z.size → Ready (w.screen m.terminal)
       → begins e.act ≡ true → Made e.outcome → Linked m (e ∷ es) → Continues es → Holds m (e ∷ es)
 
   -- a session so far: create and then these acts; `alive` unless the last of them is an accepted finish

@@ -2,5 +2,6 @@
 #![tactic(auto)]
 
 pub mod act;
+pub mod law;
 mod performing;
 pub mod run;
