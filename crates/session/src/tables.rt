@@ -1,4 +1,6 @@
 // The tables of a session: its texts and the draw buffer, lent to each act.
+ghost use Rattle.std.specs.Prelude.{◌≡◌};
+ghost use Rattle.lines.specs.Lines.{line_of};
 ghost use Rattle.session.specs.Tabled.{Begins, Empty};
 
 use lines::line_buffer::LineBuffer;
@@ -29,6 +31,20 @@ impl Tables {
             hint: Note::new(),
             renderer: PosixRenderer::new(),
         }
+    }
+
+    // The line.
+    pub fn line(&self) -> &[u8]
+        ensures { result.now ≡ line_of self.now.line }
+    {
+        self.line.line()
+    }
+
+    // The edit position: how many bytes of the line stand before it.
+    pub fn pos(&self) -> usize
+        ensures { result ≡ self.now.line.pos }
+    {
+        self.line.pos()
     }
 
     // Takes a prompt, and empties line, note and hint.
