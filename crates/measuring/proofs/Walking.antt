@@ -11,11 +11,11 @@ use Rattle.std.specs.Str.{chars}
 use Rattle.text.proofs.Spelling.{good-text-utf8}
 
 -- a character takes a byte at least
-some-bytes : (c : ℕ) → 0 < length (encode c)
+pub some-bytes : (c : ℕ) → 0 < length (encode c)
 some-bytes c = let k = len_utf8_bounds c in subst (λ n. 0 < n) (sym (length-encode c)) k.0
 
 -- and goes down a row at most
-step-row : (w : ℕ → ℕ) (cols c : ℕ) (q : Position) → (step_place cols w c q).row ≤ q.row + 1
+pub step-row : (w : ℕ → ℕ) (cols c : ℕ) (q : Position) → (step_place cols w c q).row ≤ q.row + 1
 step-row w cols c q =
     cond_both (eqb c 10) _ _ (λ (x : Position). x.row ≤ q.row + 1) (λ _. omega arith)
     (λ _. cond_both (ltb cols (q.col + w c)) _ _ (λ (x : Position). x.row ≤ q.row + 1) (λ _. omega arith) (λ _. omega arith))

@@ -4,6 +4,7 @@ pub mod Layouts
 pub mod Redrawing
 pub mod Preparing
 pub mod Heights
+pub mod Locating
 pub mod Acting
 pub mod Checking
 pub mod Tabling

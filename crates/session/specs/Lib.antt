@@ -2,6 +2,7 @@ pub mod Sessions
 pub mod Admitting
 pub mod Asking
 pub mod Judging
+pub mod Locating
 pub mod Preparing
 pub mod Styling
 pub mod Painting

@@ -10,6 +10,7 @@ mod clearing;
 mod creating;
 mod finishing;
 mod going;
+mod locating;
 mod messaging;
 mod noticing;
 mod painting;

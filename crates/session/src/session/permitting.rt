@@ -10,7 +10,7 @@ ghost use Rattle.terminal.specs.Windows.{geometry};
 
 use crate::session::Session;
 use crate::tables::Tables;
-use judging::judging::{judge_insert, judge_line, judge_message, judge_set};
+use judging::judging::{judge_insert, judge_message, judge_set};
 use layout::block::Layout;
 use lines::notice::check_notice;
 use measuring::measuring::LineEnds;
@@ -27,7 +27,7 @@ impl Session {
         ensures { JudgesEnds T.Widths.WidthTable.columns self.now tables.now (T.Terminal.extent terminal.now) refresh (line_of tables.now.line) tables.now.line.pos result }
     {
         self.admit(terminal, false)?;
-        judge_line::<T::Widths>(self.window(), &tables.line)
+        self.judge_height::<T>(tables)
     }
 
     // A clear, which a torn session takes too.
@@ -39,7 +39,7 @@ impl Session {
         ensures { JudgesEnds T.Widths.WidthTable.columns self.now tables.now (T.Terminal.extent terminal.now) clear (line_of tables.now.line) tables.now.line.pos result }
     {
         self.admit(terminal, true)?;
-        judge_line::<T::Widths>(self.window(), &tables.line)
+        self.judge_height::<T>(tables)
     }
 
     // Another line and position.
@@ -67,7 +67,10 @@ impl Session {
         ensures { JudgesEnds T.Widths.WidthTable.columns self.now tables.now (T.Terminal.extent terminal.now) (insert text.now count) (inserted (line_of tables.now.line) tables.now.line.pos text.now count) (tables.now.line.pos + count * length text.now) result }
     {
         self.admit(terminal, false)?;
-        judge_insert::<T::Widths>(self.window(), &tables.line, text, count)
+        match self.known_ends::<T>(tables) {
+            Some(ends) => self.judge_put::<T>(tables, ends.cursor, text, count),
+            None => judge_insert::<T::Widths>(self.window(), &tables.line, text, count),
+        }
     }
 
     // Another position.
@@ -108,7 +111,7 @@ impl Session {
     {
         self.admit(terminal, false)?;
         check_notice(text)?;
-        judge_line::<T::Widths>(self.window(), &tables.line)
+        self.judge_height::<T>(tables)
     }
 
     // A finish.
