@@ -1,5 +1,5 @@
 // Acts as numbers.
-use session::act::Act;
+use running::act::Act;
 
 // An act: its kind, its count, its position, and where its text begins in the texts and how long that is.
 #[repr(C)]

@@ -7,8 +7,8 @@ use highlight::matching::MatchingBracketHighlighter;
 use highlight::plain::PlainHighlighter;
 use hint::hint::NoHinter;
 use page::outcome::Rejection;
-use session::act::Act;
-use session::run::{Observer, run};
+use running::act::Act;
+use running::run::{Observer, run};
 use session::setup::Setup;
 use session::tables::Tables;
 use std::alloc::Global;
@@ -31,6 +31,8 @@ impl Counter {
 }
 
 impl<T> Observer<T> for Counter {
+    ghost told = { λ _ _ _ _ _ _. Unit {0} };
+
     fn created(&mut self, _terminal: &T, outcome: Result<(), Rejection>, _torn: bool) {
         self.count(outcome);
     }
