@@ -20,6 +20,8 @@ mod prompt;
 mod report;
 #[path = "../own/rules.rs"]
 mod rules;
+#[path = "../own/sample.rs"]
+mod sample;
 #[path = "../own/scripts.rs"]
 mod scripts;
 mod tty;

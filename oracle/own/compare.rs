@@ -146,7 +146,7 @@ pub enum Verdict {
     NoName(String),
 }
 impl Verdict {
-    fn text(&self) -> String {
+    pub fn text(&self) -> String {
         match self {
             Verdict::Equal => "equal".into(),
             Verdict::Broke => "equal, a write broke".into(),

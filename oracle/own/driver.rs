@@ -358,7 +358,7 @@ fn run_ours(set: &Settings, acts: &[Act]) -> Result<Vec<(Report, Screen)>, Strin
     Ok(out)
 }
 /// one measurement, `COLS TAB TABLE COL ROW TEXT`: the crate's answer, or ours
-fn place(a: &[String], ours: bool) -> String {
+pub fn place(a: &[String], ours: bool) -> String {
     let n = |i: usize| a[i].parse::<u16>().expect("number");
     table(&a[2]);
     let t = arg_text(&a[5]);
@@ -375,7 +375,7 @@ fn place(a: &[String], ours: bool) -> String {
     }
 }
 /// one bracket look, `LINE POS`: check_bracket, highlight_char and highlight of the crate
-fn bracket(a: &[String]) -> String {
+pub fn bracket(a: &[String]) -> String {
     let l = arg_text(&a[0]);
     let pos: usize = a[1].parse().expect("number");
     let m = MatchingBracketHighlighter::new();
@@ -384,7 +384,7 @@ fn bracket(a: &[String]) -> String {
     format!("bracket {found} char {} line {}", if yes { "yes" } else { "no" }, escape(m.highlight(&l, pos).as_bytes()))
 }
 /// words and quoted strings of one line
-fn split(l: &[u8]) -> Vec<String> {
+pub fn split(l: &[u8]) -> Vec<String> {
     let mut v = Vec::new();
     let mut l = l.trim_ascii();
     while !l.is_empty() {
@@ -448,6 +448,7 @@ pub fn main() {
         }),
         Some("fuzz") => crate::fuzz::main(&rest),
         Some("compare") => crate::compare::main(&rest),
-        _ => { eprintln!("oracle report < script | acts [--ours] [--gate] [--layout] [--screen] [--raw-hints] < script | place [--ours] [COLS TAB TABLE COL ROW TEXT] | bracket [LINE POS] | screen [COLS ROWS TABLE BYTES] | fuzz KIND N SEED | compare PROGRAM ACTS SEED [JOBS [DENIED]] | compare --script SEED NUMBER"); std::process::exit(1) }
+        Some("sample") => crate::sample::main(rest.first().map_or(1, |s| s.parse().expect("a number"))),
+        _ => { eprintln!("oracle report < script | acts [--ours] [--gate] [--layout] [--screen] [--raw-hints] < script | place [--ours] [COLS TAB TABLE COL ROW TEXT] | bracket [LINE POS] | screen [COLS ROWS TABLE BYTES] | fuzz KIND N SEED | compare PROGRAM ACTS SEED [JOBS [DENIED]] | compare --script SEED NUMBER | sample SEED"); std::process::exit(1) }
     }
 }
