@@ -275,8 +275,11 @@ pub fn directive(set: &mut Settings, line: &[u8]) -> Result<Option<Act>, String>
         "colours" => set.colours = on(w.first())?,
         "holds" => set.holds = on(w.first())?,
         "highlighter" => set.brackets = match w.first() { Some(&"plain") => false, Some(&"brackets") => true, _ => return Err("plain|brackets".into()) },
-        // one that is not UTF-8 is never offered
-        "caption" => if let Ok(c) = text(quoted(rest)?.0) { set.captions.push(c) },
+        "caption" => {
+            let c = quoted(rest)?.0;
+            // of one that is not UTF-8, those of its lines that are; the others are never offered
+            match text(c.clone()) { Ok(t) => set.captions.push(t), Err(_) => set.captions.extend(c.split(|&b| b == b'\n').filter_map(|l| text(l.to_vec()).ok())) }
+        }
         "pace" => set.pacers = num(w.first().copied())?,
         "paper" => set.paper = num(w.first().copied())?,
         "fault" => {
