@@ -58,6 +58,8 @@ def applied(folder, pairs):
     texts = {}
     for file, old, new in pairs:
         if file not in texts:
+            if not os.path.isfile(f"{folder}/{file}"):
+                return None
             with open(f"{folder}/{file}", encoding="utf-8") as it:
                 texts[file] = it.read()
         if texts[file].count(old) != 1:
