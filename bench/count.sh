@@ -1,9 +1,11 @@
 #!/bin/sh
-# counts instructions by valgrind: count.sh WORK BYTES SIDE prints those of one act, the whole script less its preparation
+# counts instructions by valgrind: count.sh WORK BYTES SIDE prints those of one act, played with its preparation less the
+# preparation alone
 cd "$(dirname "$0")" || exit 1
 case $1 in type*|go*) many=$2;; *) many=50;; esac
+case $3 in ours) name=bench_lib_play;; *) name=theirs_play;; esac
 count() {
-    valgrind --tool=callgrind --callgrind-out-file=/dev/null target/release/bench play "$1" "$2" "$3" "$4" 2>&1 \
+    valgrind --tool=callgrind --callgrind-out-file=/dev/null --toggle-collect=$name target/release/bench play "$1" "$2" "$3" "$4" 2>&1 \
         | sed -n 's/.*Collected : \([0-9]*\).*/\1/p'
 }
 none=$(count "$1" "$2" 0 "$3")

@@ -40,6 +40,8 @@ impl Highlighter for Aid {
 }
 
 /// plays acts behind a create: how many were accepted, create included, and how many bytes were written
+#[unsafe(export_name = "theirs_play")]
+#[inline(never)]
 pub fn play(cols: u16, rows: u16, colours: bool, acts: &mut [Act], out: &mut [u8]) -> (usize, usize) {
     nix::term::SINK.set((out.as_mut_ptr(), out.len(), 0));
     let mut writer = make(cols, rows, 8, colours, false);

@@ -25,10 +25,10 @@ const WORKS: [(&str, &[usize]); 8] = [
     ("lit-go", &[80, 1000, 4096]),
 ];
 
-fn play_ours(s: &Script, out: &mut [u8]) -> (usize, usize, f64) {
+fn play_ours(s: &Script, room: usize, out: &mut [u8]) -> (usize, usize, f64) {
     let (deeds, texts) = s.ours();
     let t = Instant::now();
-    let (accepted, written) = ours::play(COLS, ROWS, s.colours, deeds, texts, out);
+    let (accepted, written) = ours::play(COLS, ROWS, s.colours, room, deeds, texts, out);
     (accepted, written, t.elapsed().as_secs_f64())
 }
 fn play_theirs(s: &Script, out: &mut [u8]) -> (usize, usize, f64) {
@@ -42,14 +42,17 @@ fn play_theirs(s: &Script, out: &mut [u8]) -> (usize, usize, f64) {
 fn each(name: &str, bytes: usize, ours: bool) -> (f64, f64) {
     let n = many(name, bytes);
     let (whole, none) = (script(name, bytes, n), script(name, bytes, 0));
+    // as much memory as is written
     let mut out = vec![0u8; ROOM];
+    let room = play_theirs(&whole, &mut out).1;
+    out.truncate(room);
     let mut best = [f64::MAX; 2];
     let mut written = [0; 2];
     let from = Instant::now();
     let mut rounds = 0;
     while rounds < 5 || (from.elapsed().as_secs_f64() < 0.4 && rounds < 1000) {
         for (i, s) in [&whole, &none].into_iter().enumerate() {
-            let (accepted, w, t) = if ours { play_ours(s, &mut out) } else { play_theirs(s, &mut out) };
+            let (accepted, w, t) = if ours { play_ours(s, room, &mut []) } else { play_theirs(s, &mut out) };
             assert_eq!(accepted, s.len() + 1, "{name} {bytes}");
             best[i] = best[i].min(t);
             written[i] = w;
@@ -79,7 +82,7 @@ fn check() {
             for &bytes in sizes {
                 let s = script(&name, bytes, many(&name, bytes));
                 let (mut a, mut b) = (vec![0u8; ROOM], vec![0u8; ROOM]);
-                let (n, len, _) = play_ours(&s, &mut a);
+                let (n, len, _) = play_ours(&s, ROOM, &mut a);
                 let (m, long, _) = play_theirs(&s, &mut b);
                 let same = a[..len] == b[..long];
                 println!("{name} {bytes}: {n} and {m} of {} accepted, {len} and {long} bytes, {}", s.len() + 1, if same { "alike" } else { "NOT ALIKE" });
@@ -96,7 +99,7 @@ fn main() {
         ["play", name, bytes, n, side] => {
             let s = script(name, bytes.parse().unwrap(), n.parse().unwrap());
             let mut out = vec![0u8; ROOM];
-            let (accepted, written, _) = if *side == "ours" { play_ours(&s, &mut out) } else { play_theirs(&s, &mut out) };
+            let (accepted, written, _) = if *side == "ours" { play_ours(&s, ROOM, &mut []) } else { play_theirs(&s, &mut out) };
             println!("{accepted} {written}");
         }
         _ => eprintln!("bench time | bench check | bench play WORK BYTES MANY ours|theirs"),

@@ -21,15 +21,16 @@ pub struct Played {
 
 unsafe extern "C" {
     // a slice crosses as a pointer and a length, and the allocator as nothing
-    fn bench_lib_play(cols: u16, rows: u16, colours: bool, deeds: *const Deed, many: usize, texts: *const u8, len: usize,
-        out: *mut u8, room: usize) -> Played;
+    fn bench_lib_play(cols: u16, rows: u16, colours: bool, room: usize, deeds: *const Deed, many: usize, texts: *const u8, len: usize,
+        out: *mut u8, front: usize) -> Played;
 }
 
 /// plays acts behind a create: how many were accepted, create included, and how many bytes were written
-pub fn play(cols: u16, rows: u16, colours: bool, deeds: &[Deed], texts: &[u8], out: &mut [u8]) -> (usize, usize) {
+/// on a terminal that keeps `room` bytes; `out` gets the first of them
+pub fn play(cols: u16, rows: u16, colours: bool, room: usize, deeds: &[Deed], texts: &[u8], out: &mut [u8]) -> (usize, usize) {
     // SAFETY: pointers and lengths are those of three slices that are lent for the call, and the function asks nothing more
     let p = unsafe {
-        bench_lib_play(cols, rows, colours, deeds.as_ptr(), deeds.len(), texts.as_ptr(), texts.len(), out.as_mut_ptr(), out.len())
+        bench_lib_play(cols, rows, colours, room, deeds.as_ptr(), deeds.len(), texts.as_ptr(), texts.len(), out.as_mut_ptr(), out.len())
     };
     (p.accepted, p.written)
 }

@@ -1,6 +1,4 @@
 // Acts played into memory.
-ghost use Rattle.std.specs.Prelude.{◌≤◌, length};
-
 use crate::deed::Deed;
 use highlight::highlight::Highlighter;
 use highlight::matching::MatchingBracketHighlighter;
@@ -86,16 +84,17 @@ fn play_lit<H: Highlighter + Drop>(
     counter.accepted
 }
 
-// Plays acts on a terminal that keeps what is written in a memory: no answer where the size is out of range or memory fails.
+// Plays acts on a terminal that keeps so many bytes, and copies those that `out` holds: no answer where memory fails.
 fn play(
     heap: Global,
     size: Size,
+    room: usize,
     colours: bool,
     deeds: &[Deed],
     texts: &[u8],
     out: &mut [u8],
 ) -> Option<Played> {
-    let memory = Vec::from_elem(heap, 0u8, out.len()).ok()?;
+    let memory = Vec::from_elem(heap, 0u8, room).ok()?;
     let acts = acts_of(heap, deeds, texts)?;
     let setup = Setup::check::<Latin>(size.cols(), size.rows(), b"> ", b"> ", colours, false).ok()?;
     let mut terminal = Record::new(Latin, memory, size);
@@ -109,26 +108,26 @@ fn play(
     } else {
         play_lit(&mut terminal, PlainHighlighter, &setup, acts.as_slice())
     };
-    let written = copy_out(terminal.bytes(), out);
+    let written = terminal.bytes().len();
+    copy_front(terminal.bytes(), out);
     Some(Played { accepted, written })
 }
 
-// Copies bytes to the front of a memory, as many as it holds, and tells how many.
-fn copy_out(bytes: &[u8], out: &mut [u8]) -> usize
-    ensures { result ≤ length out.old }
-{
+// Copies bytes to the front of a memory, as many as it holds.
+fn copy_front(bytes: &[u8], out: &mut [u8]) {
     let len = bytes.len().min(out.len());
     out[..len].copy_from_slice(&bytes[..len]);
-    len
 }
 
-// Plays acts and copies what they wrote; nothing was accepted where the size is out of range or memory fails.
+// Plays acts on a terminal that keeps so many bytes, and copies those that `out` holds; nothing was accepted where the
+// size is out of range or memory fails.
 #[unsafe(no_mangle)]
 pub extern "C" fn bench_lib_play(
     heap: Global,
     cols: u16,
     rows: u16,
     colours: bool,
+    room: usize,
     deeds: &[Deed],
     texts: &[u8],
     out: &mut [u8],
@@ -138,7 +137,7 @@ pub extern "C" fn bench_lib_play(
         written: 0,
     };
     match Size::new(cols, rows) {
-        Ok(size) => play(heap, size, colours, deeds, texts, out).unwrap_or(none),
+        Ok(size) => play(heap, size, room, colours, deeds, texts, out).unwrap_or(none),
         Err(_) => none,
     }
 }
