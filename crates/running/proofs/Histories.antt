@@ -9,6 +9,7 @@ use Rattle.session.specs.Acting.{Acted}
 use Rattle.running.specs.Observing.{Told}
 use Rattle.session.specs.Finishing.{Ended}
 use Rattle.session.specs.Sessions.{Sound, State, View, is_torn, moment_of, page_of, prompt_of, settings_of}
+use Rattle.session.specs.declared.tables.Tables.{Tables}
 use Rattle.terminal.specs.Windows.{geometry}
 
 module _ {T H O : Type 0} (told : O → T → Act → Outcome → Bool → O → Type 0) where
@@ -39,14 +40,14 @@ module _ {T H O : Type 0} (told : O → T → Act → Outcome → Bool → O →
         → told q y.terminal a r (is_torn y.session.standing) p → (v : View) → Lasting acts true (moment_of x v) q → (u : View) × Lasting (acts ++ (a ∷ [])) true (moment_of y u) p
     acted-history acts x y a r q p same sound later live act now v past =
         let st = act.steps sound v in
-        (st.0, subst (λ b. Lasting (acts ++ (a ∷ [])) (not b) (moment_of y st.0) p) live (lasting-more acts (moment_of x v) (moment_of y st.0) a r q p past later (subst (λ (k : Settings). Stepped w k (moment_of x v) a r (moment_of y st.0)) same st.1) now))
+        (st.0, subst (λ b. Lasting (acts ++ (a ∷ [])) (not b) (moment_of y st.0) p) live (lasting-more acts (moment_of x v) (moment_of y st.0) a r q p past later (subst (λ (k : Settings). Stepped w k (moment_of x v) a r (moment_of y st.0)) same st.1.step) now))
 
     -- an accepted finish
-    pub ended-history : (acts : List Act) (x : State T H) (u : T) (k : H) (q p : O) → settings_of x.session x.tables ≡ z → Sound w.columns x.session x.tables → Ended w x u k → told q u finish (Ok tt) false p → (v : View) → Lasting acts true (moment_of x v) q
+    pub ended-history : (acts : List Act) (x : State T H) (u : T) (k : H) (c : Tables) (q p : O) → settings_of x.session x.tables ≡ z → Sound w.columns x.session x.tables → Ended w x u k c → told q u finish (Ok tt) false p → (v : View) → Lasting acts true (moment_of x v) q
         → Lasting (acts ++ (finish ∷ [])) false (record { terminal = u; highlighter = k; page = closed (geometry w.columns x.session.size) (prompt_of x.tables) (page_of x.session x.tables v); torn = false }) p
-    ended-history acts x u k q p same sound end now v past =
+    ended-history acts x u k c q p same sound end now v past =
         lasting-more acts (moment_of x v) (record { terminal = u; highlighter = k; page = closed (geometry w.columns x.session.size) (prompt_of x.tables) (page_of x.session x.tables v); torn = false }) finish (Ok tt) q p past refl
-        (subst (λ (s : Settings). Stepped w s (moment_of x v) finish (Ok tt) (record { terminal = u; highlighter = k; page = closed (geometry w.columns x.session.size) (prompt_of x.tables) (page_of x.session x.tables v); torn = false })) same (end sound v)) now
+        (subst (λ (s : Settings). Stepped w s (moment_of x v) finish (Ok tt) (record { terminal = u; highlighter = k; page = closed (geometry w.columns x.session.size) (prompt_of x.tables) (page_of x.session x.tables v); torn = false })) same (end sound v).step) now
 
 -- an act under another name
 pub performed : {T H : Type 0} (w : World T H) (x y : State T H) (a d : Act) (r : Outcome) → a ≡ d → closes d r ≡ false → Acted w x d r y → Acted w x a r y × (closes a r ≡ false)

@@ -76,12 +76,12 @@ module _ {T H O : Type 0} (told : O → T → Act → Outcome → Bool → O →
       let live = subst (λ (o : Option Session). Performed w y (deed (get_or acts i d)) o r t h b) is does in
       onward-more x y q p acts i d lt past r (state_of t h s b) after live.0 live.1 now
 
-  module _ (meant : Meant w) (setup : Setup) (t : T) (h : H) (o : O) (x : State T H) (r : Outcome) (q : O) (made : Created w setup t h r x) (now : told o x.terminal create r (is_torn x.session.standing) q) (acts : List declared.Act) where
+  module _ (meant : Meant w) (setup : Setup) (t : T) (h : H) (o : O) (x : State T H) (r : Outcome) (q : O) (before : List ℕ) (made : Created w setup t h before r x) (now : told o x.terminal create r (is_torn x.session.standing) q) (acts : List declared.Act) where
     abbrev z : Settings
     z = settled_by setup (w.extent t)
 
     start : Lasting told w z t h o [] true (moment_of x made.steps.0) q
-    start = lasting-none told w z t h o r (moment_of x made.steps.0) q made.steps.1 now
+    start = lasting-none told w z t h o r (moment_of x made.steps.0) q made.steps.1.step now
 
     observed : (done left : List Act) (alive : Bool) (m : Moment T H) (p : O) → deeds acts ≡ done ++ left → (alive ≡ true → left ≡ []) → Lasting told w z t h o done alive m p → Observed told w z t h (deeds acts) alive m.terminal m.highlighter o p
     unfolding ran
@@ -97,20 +97,20 @@ module _ {T H O : Type 0} (told : O → T → Act → Outcome → Bool → O →
         observed (deeds acts) [] true (moment_of y end.0) p (sym (append-nil (deeds acts))) (λ _. refl) end.1
 
     -- a finish was accepted
-    pub ran-ended : (y : State T H) (p : O) (i : ℕ) (d : declared.Act) (u : T) (k : H) (after : O) → i < length acts → deed (get_or acts i d) ≡ finish → Ended w y u k → told p u finish (Ok tt) false after → Onward x y q p (deeds (take i acts)) → Observed told w z t h (deeds acts) false u k o after
-    ran-ended y p i d u k after lt is end heard past =
+    pub ran-ended : (y : State T H) (p : O) (i : ℕ) (d : declared.Act) (u : T) (k : H) (c : Tables) (after : O) → i < length acts → deed (get_or acts i d) ≡ finish → Ended w y u k c → told p u finish (Ok tt) false after → Onward x y q p (deeds (take i acts)) → Observed told w z t h (deeds acts) false u k o after
+    ran-ended y p i d u k c after lt is end heard past =
         let before = past.history z t h o made.steps.0 made.settings start in
         observed (deeds (take i acts) ++ (finish ∷ [])) (deeds (drop (suc i) acts)) false
         (record { terminal = u; highlighter = k; page = closed (geometry w.columns y.session.size) (prompt_of y.tables) (page_of y.session y.tables before.0); torn = false }) after
         (deeds-parts acts (suc i) ∙ ap (λ (l : List Act). l ++ deeds (drop (suc i) acts)) (deeds-more acts i d lt ∙ ap (λ (b : Act). deeds (take i acts) ++ (b ∷ [])) is))
-        (λ e. absurd (clash e)) (ended-history told w z t h o (deeds (take i acts)) y u k p after (past.settings ∙ made.settings) past.sound end heard before.0 before.1)
+        (λ e. absurd (clash e)) (ended-history told w z t h o (deeds (take i acts)) y u k c p after (past.settings ∙ made.settings) past.sound end heard before.0 before.1)
 
     -- an act after which no session lives on
     pub ran-closed : (y : State T H) (p : O) (i : ℕ) (d : declared.Act) → i < length acts → Onward x y q p (deeds (take i acts))
         → (left : Option Session) (e : Outcome) (u : T) (k : H) (b : Tables) (after : O) → Performed w y (deed (get_or acts i d)) left e u k b → left ≡ None → told p u (deed (get_or acts i d)) e false after → Observed told w z t h (deeds acts) false u k o after
     ran-closed y p i d lt past left e u k b after does is heard =
         let end = subst (λ (s : Option Session). Performed w y (deed (get_or acts i d)) s e u k b) is does in
-        ran-ended y p i d u k after lt end.0 end.2 (subst (λ (a : Act). told p u a (Ok tt) false after) end.0 (subst (λ (f : Outcome). told p u (deed (get_or acts i d)) f false after) end.1 heard)) past
+        ran-ended y p i d u k b after lt end.0 end.2 (subst (λ (a : Act). told p u a (Ok tt) false after) end.0 (subst (λ (f : Outcome). told p u (deed (get_or acts i d)) f false after) end.1 heard)) past
 
     -- no act is left
     pub ran-over : (y : State T H) (p : O) (i : ℕ) → length acts ≤ i → Onward x y q p (deeds (take i acts)) → Observed told w z t h (deeds acts) true y.terminal y.highlighter o p

@@ -19,4 +19,4 @@ module _ {T H : Type 0} (w : World T H) where
   -- an act of a session: it lives on; or the act was a finish, and accepted
   abbrev pub Performed : State T H → Act → Option Session → Outcome → T → H → Tables → Type 0
   Performed x a (Some s) r t h b = Acted w x a r (state_of t h s b) × (closes a r ≡ false)
-  Performed x a None r t h b = (a ≡ finish) × (r ≡ Ok tt) × Ended w x t h
+  Performed x a None r t h b = (a ≡ finish) × (r ≡ Ok tt) × Ended w x t h b

@@ -13,7 +13,7 @@ use Rattle.page.specs.declared.outcome.BrokenAct.{BrokenAct}
 use Rattle.page.specs.declared.outcome.Rejection.TheVariants.{Refused}
 use Rattle.session.proofs.Acting.{refused-acted}
 use Rattle.session.proofs.Heights.{line-good}
-use Rattle.session.proofs.Redrawing.{anew-acted, bare_view, painted-left}
+use Rattle.session.proofs.Redrawing.{anew-acted, bare_view, painted-left, redrawn-layout}
 use Rattle.session.specs.Acting.{Acted, outcome_of, state_of}
 use Rattle.session.specs.Judging.{JudgesEnds}
 use Rattle.session.specs.Refreshing.{Refreshed}
@@ -35,8 +35,9 @@ module _ {T H : Type 0} (w : World T H) (x y : State T H) (e : LineEnds) (r : Re
   pub refresh-acted : JudgesEnds w.columns x.session x.tables (w.extent x.terminal) refresh (line_of x.tables.line) x.tables.line.pos (Ok e) → Refreshed w e x r y → Acted w x refresh o y
   refresh-acted judged f =
       subst (λ (p : Outcome). Acted w x refresh p y) (sym is)
-      (anew-acted w x y (line_of x.tables.line) x.tables.line.pos e f.layout f.session x.tables f.tables r (refl, refl) refl f.prepares (painted-left f.paints) f.paints.drew.styles f.paints.drew.styled f.paints.drew.written
-      refresh judged (λ _. (line-good x.tables, line-place x.tables.line)) refl (λ v h. h) (λ v. refl) (λ v. refl) (λ v q h. h) (λ t v. refl))
+      (anew-acted w x y (line_of x.tables.line) x.tables.line.pos e f.layout f.session x.tables f.tables r (refl, refl) refl f.prepares (painted-left f.paints) f.paints.drew.styles f.paints.drew.styled f.paints.drew.written f.paints.drew.bytes
+      refresh judged (λ _. (line-good x.tables, line-place x.tables.line)) refl (λ v h. h) (λ v. refl) (λ v. refl) (λ v q h. h) (λ t v. refl) (λ t v. refl)
+      (redrawn-layout w x y (line_of x.tables.line) x.tables.line.pos e f.layout f.session x.tables f.tables r (refl, refl) refl f.prepares (painted-left f.paints) f.paints.drew.styles))
 
 module _ {T H : Type 0} (w : World T H) (x : State T H) (line : List ℕ) (pos : ℕ) (e : LineEnds) (judged : JudgesEnds w.columns x.session x.tables (w.extent x.terminal) (set line pos) line pos (Ok e)) where
   met : Sound w.columns x.session x.tables → Admitted (geometry w.columns x.session.size) (prompt_of x.tables) (is_torn x.session.standing) ((w.extent x.terminal ≡ x.session.size) × (x.session.begun ≡ x.session.size)) (set line pos) (page_of x.session x.tables bare_view)
@@ -49,5 +50,6 @@ module _ {T H : Type 0} (w : World T H) (x : State T H) (line : List ℕ) (pos :
   pub set-acted : (y : State T H) (r : Result Unit BrokenAct) (o : Outcome) → o ≡ outcome_of r → (q : LineBuffer) → Holds line pos q → Refreshed w e (state_of x.terminal x.highlighter x.session (with_line q x.tables)) r y → Acted w x (set line pos) o y
   set-acted y r o is q held f =
       subst (λ (p : Outcome). Acted w x (set line pos) p y) (sym is)
-      (anew-acted w x y line pos e f.layout f.session (with_line q x.tables) f.tables r held refl f.prepares (painted-left f.paints) f.paints.drew.styles f.paints.drew.styled f.paints.drew.written
-      (set line pos) judged (λ s. ((met s).text, (met s).place)) refl (λ v h. h) (λ v. refl) (λ v. refl) (λ v q h. h) (λ t v. refl))
+      (anew-acted w x y line pos e f.layout f.session (with_line q x.tables) f.tables r held refl f.prepares (painted-left f.paints) f.paints.drew.styles f.paints.drew.styled f.paints.drew.written f.paints.drew.bytes
+      (set line pos) judged (λ s. ((met s).text, (met s).place)) refl (λ v h. h) (λ v. refl) (λ v. refl) (λ v q h. h) (λ t v. refl) (λ t v. refl)
+      (redrawn-layout w x y line pos e f.layout f.session (with_line q x.tables) f.tables r held refl f.prepares (painted-left f.paints) f.paints.drew.styles))

@@ -1,8 +1,9 @@
 -- A clear: the writes before its drawing, and the step that it is.
-use Rattle.std.proofs.Common.{◌≡◌, ℕ, ◌+◌, ◌^◌, ◌<◌, ◌≤◌, Bool, true, false, ◌&&◌, List, [], ◌∷◌, ◌++◌, length, Some, None, Ok, Err, Result, sym, refl, ap, ◌∙◌, subst, arith}
+use Rattle.std.proofs.Common.{◌≡◌, ℕ, ◌+◌, ◌^◌, ◌<◌, ◌≤◌, Bool, true, false, ◌&&◌, List, [], ◌∷◌, ◌++◌, length, is_err, Some, None, Ok, Err, Result, sym, refl, ap, ◌∙◌, subst, arith}
 use Rattle.session.specs.Styling.{StyledTexts}
 use mir.Val.{bool_byte}
 use Rattle.judging.specs.Judgements.{Low}
+use Rattle.layout.specs.Laying.{LaidAs, corner}
 use Rattle.layout.specs.declared.block.Layout.{Layout}
 use Rattle.lines.proofs.Buffers.{line-place}
 use Rattle.lines.specs.Lines.{line_of}
@@ -10,7 +11,7 @@ use Rattle.measuring.specs.Measured.{EndsFor}
 use Rattle.measuring.specs.declared.measuring.LineEnds.{LineEnds}
 use Rattle.page.proofs.Admitting.{admitted}
 use Rattle.page.specs.Acts.{Replies, clear, raised}
-use Rattle.page.specs.Law.{Went, World, Written}
+use Rattle.page.specs.Law.{World, Written}
 use Rattle.page.specs.Output.{draw_page, framed, writes}
 use Rattle.page.specs.Page.{Page}
 use Rattle.page.specs.declared.outcome.BrokenAct.{BrokenAct}
@@ -21,10 +22,11 @@ use Rattle.render.specs.Numbering.{shifted}
 use Rattle.render.specs.declared.renderer.PosixRenderer.{PosixRenderer}
 use Rattle.screen.specs.Output.{clear_bytes, erase_bytes, release_bytes}
 use Rattle.screen.specs.Screen.{Geometry}
-use Rattle.session.proofs.Acting.{went-acted}
-use Rattle.session.proofs.Redrawing.{Left, bare_view, corner-erases, page_next, redrawn-bytes, redrawn-heeds, redrawn-holds, redrawn-settings, redrawn-sound, redrawn-went, replies}
+use Rattle.session.proofs.Acting.{WentBuffered, went-acted}
+use Rattle.session.proofs.Redrawing.{Left, bare_view, corner-erases, page_next, redrawn-bytes, redrawn-heeds, redrawn-holds, redrawn-layout, redrawn-settings, redrawn-sound, redrawn-went, replies}
 use Rattle.session.proofs.Heights.{line-good}
 use Rattle.session.specs.Acting.{Acted, outcome_of}
+use Rattle.session.specs.Buffering.{buffer_of}
 use Rattle.session.specs.Clearing.{Cleared, DrawnCleared, cleared_by, wiped}
 use Rattle.session.specs.Judging.{JudgesEnds, RefusesAct}
 use Rattle.session.specs.Painting.{drawn_to, laid_at}
@@ -83,6 +85,7 @@ composed-cleared answered lights lights_prompt lights_hint release l s b m n byt
   styles = made.styles;
   styled = made.styled;
   written = subst (λ (bs : List ℕ). Written answered x (cleared_by release s.holds bs) r y) (is ∙ made.bytes) written;
+  bytes = made.bytes;
   session = ended;
   prompt = refl;
   line = refl;
@@ -110,6 +113,10 @@ module _ {T H : Type 0} (w : World T H) (x y : State T H) (e : LineEnds) (r : Re
   pub cleared-settings : settings_of y.session y.tables ≡ settings_of x.session x.tables
   cleared-settings = redrawn-settings w wiped_state y (line_of x.tables.line) x.tables.line.pos e cleared.layout cleared.session x.tables cleared.tables r (refl, refl) refl cleared.prepares left cleared.paints.styles
 
+  -- broken, it leaves no layout
+  pub cleared-layout : is_err r ≡ true → LaidAs 1 corner corner corner y.session.layout
+  cleared-layout broken = subst (λ (l : Layout). LaidAs 1 corner corner corner l) (sym (redrawn-layout w wiped_state y (line_of x.tables.line) x.tables.line.pos e cleared.layout cleared.session x.tables cleared.tables r (refl, refl) refl cleared.prepares left cleared.paints.styles broken)) cleared.first
+
   module _ (sound : Sound w.columns x.session x.tables) (judged : RefusesAct w.columns x.session x.tables (w.extent x.terminal) clear None) (ends : EndsFor w.columns x.session.size.cols ps (line_of x.tables.line) x.tables.line.pos e) where
     low : Low d ps (line_of x.tables.line) []
     low = (admitted d ps (is_torn x.session.standing) ((w.extent x.terminal ≡ x.session.size) × (x.session.begun ≡ x.session.size)) clear (page_of x.session x.tables bare_view) (judged bare_view)).height
@@ -136,14 +143,15 @@ module _ {T H : Type 0} (w : World T H) (x y : State T H) (e : LineEnds) (r : Re
           subst (λ (bs : List ℕ). Written w.answered x.terminal (cleared_by (is_torn x.session.standing && x.session.holds) x.session.holds bs) r y.terminal) body_is
           (subst (λ (h : Bool). Written w.answered x.terminal (cleared_by (is_torn x.session.standing && x.session.holds) h (erase_layout cleared.session.layout ++ draw_layout cleared.paints.styles cleared.layout)) r y.terminal) (redrawn-holds w wiped_state y (line_of x.tables.line) x.tables.line.pos e cleared.layout cleared.session x.tables cleared.tables r (refl, refl) refl cleared.prepares left cleared.paints.styles) cleared.paints.written)
 
-      pub cleared-went : (u : View) × Went w (settings_of x.session x.tables) (moment_of x v) clear r (moment_of y u)
-      cleared-went = (record { upper = page_blank.upper; base = page_blank.base; window = page.window }, redrawn-went w wiped_state y (line_of x.tables.line) x.tables.line.pos e cleared.layout cleared.session x.tables cleared.tables r (refl, refl) refl cleared.prepares left cleared.paints.styles wiped-sound (line-good x.tables) (line-place x.tables.line) ends low cleared.paints.styled (moment_of x v) clear page_blank refl refl refl (redrawn-heeds w wiped_state y (line_of x.tables.line) x.tables.line.pos e cleared.layout cleared.session x.tables cleared.tables r (refl, refl) refl cleared.prepares left cleared.paints.styles wiped-sound (line-good x.tables) (line-place x.tables.line) ends low page_blank) cleared-writes)
+      pub cleared-went : (u : View) × WentBuffered w (settings_of x.session x.tables) (moment_of x v) clear r (buffer_of x.tables) (buffer_of y.tables) (moment_of y u)
+      cleared-went = (record { upper = page_blank.upper; base = page_blank.base; window = page.window }, redrawn-went w wiped_state y (line_of x.tables.line) x.tables.line.pos e cleared.layout cleared.session x.tables cleared.tables r (refl, refl) refl cleared.prepares left cleared.paints.styles wiped-sound (line-good x.tables) (line-place x.tables.line) ends low cleared.paints.styled (buffer_of x.tables) (moment_of x v) clear page_blank refl refl refl (redrawn-heeds w wiped_state y (line_of x.tables.line) x.tables.line.pos e cleared.layout cleared.session x.tables cleared.tables r (refl, refl) refl cleared.prepares left cleared.paints.styles wiped-sound (line-good x.tables) (line-place x.tables.line) ends low page_blank) cleared-writes (cleared.paints.bytes ∙ body_is))
 
 -- a clear that was judged and drawn
 pub cleared-acted : {T H : Type 0} (w : World T H) (x y : State T H) (e : LineEnds) (r : Result Unit BrokenAct) → JudgesEnds w.columns x.session x.tables (w.extent x.terminal) clear (line_of x.tables.line) x.tables.line.pos (Ok e)
     → Cleared w e x r y → Acted w x clear (outcome_of r) y
 cleared-acted w x y e r judges cleared =
     went-acted w x y clear r (cleared-settings w x y e r cleared)
+    (cleared-layout w x y e r cleared)
     (λ s. cleared-sound w x y e r cleared s (judges.refuses s) (judges.tells s))
     (λ s. judges.refuses s)
     (λ s v. cleared-went w x y e r cleared s (judges.refuses s) (judges.tells s) v)

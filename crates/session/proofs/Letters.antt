@@ -19,20 +19,22 @@ use Rattle.page.proofs.Admitting.{Admitted, admitted}
 use Rattle.page.proofs.Inserting.{brought}
 use Rattle.page.proofs.Spelt.{insert-boundary, insert-good, one-good}
 use Rattle.page.specs.Acts.{Replies, edited, hinted, insert}
-use Rattle.page.specs.Law.{Moment, Went, World, Written}
+use Rattle.page.specs.Law.{Moment, World, Written}
 use Rattle.page.specs.Output.{direct, framed, redraw}
 use Rattle.page.specs.Page.{Page}
 use Rattle.page.specs.Rules.{AtBoundary, OneCharacter, Outcome}
 use Rattle.page.specs.declared.outcome.BrokenAct.{BrokenAct}
+use Rattle.render.specs.Composing.{composed}
 use Rattle.render.specs.Drawing.{Styles, draw_layout, old_rows, texts_of}
 use Rattle.screen.specs.Places.{top_left}
 use Rattle.screen.specs.Screen.{Geometry}
-use Rattle.session.proofs.Acting.{went-acted}
+use Rattle.session.proofs.Acting.{WentBuffered, went-acted}
 use Rattle.session.proofs.Anew.{with_line}
 use Rattle.session.proofs.Heights.{line-good}
 use Rattle.session.proofs.Redrawing.{Left, anew-acted, bare_view, note-is, painted-left, untorn, was-shown}
-use Rattle.session.proofs.Redrawing as redrawing
+use Rattle.session.proofs.Redrawing as anew
 use Rattle.session.specs.Acting.{Acted, outcome_of}
+use Rattle.session.specs.Buffering.{buffer_of, redrawing}
 use Rattle.session.specs.Judging.{JudgesEnds}
 use Rattle.session.specs.Preparing.{Prepared}
 use Rattle.session.specs.Sessions.{Shown, Sound, State, View, is_torn, moment_of, page_of, prompt_of, settings_of}
@@ -109,7 +111,7 @@ module _ {T H : Type 0} (w : World T H) (x y : State T H) (text : List ℕ) (n :
       (left : Left l s c r y.session y.tables) (styles : Styles) (cols : ℕ) (width : ColumnsOf w.columns text cols) (row again : Bool) (row_is : row ≡ in_row x.session x.tables n cols)
       (decided : again ≡ (row && (not (is_some (note_of c.note)) && not (s.lit || x.session.lit)))) where
     abbrev replies : Replies
-    replies = redrawing.replies w x y ln pos e l s (with_line q x.tables) c r held refl prep left styles
+    replies = anew.replies w x y ln pos e l s (with_line q x.tables) c r held refl prep left styles
 
     -- the test of the code is that of the law
     module _ (t : Belongs) (v : View) where
@@ -133,33 +135,40 @@ module _ {T H : Type 0} (w : World T H) (x y : State T H) (text : List ℕ) (n :
 
     -- drawn anew
     pub insert-anew : again ≡ false → (Written w.answered x.terminal (framed s.holds ((old_rows (Some s.layout) ++ draw_layout styles l) ∷ [])) r y.terminal)
+        → buffer_of y.tables ≡ old_rows (Some s.layout) ++ draw_layout styles l
         → StyledTexts (w.lights y.highlighter) (w.lights_prompt y.highlighter) (w.lights_hint y.highlighter) s.colours (texts_of c.prompt c.line c.note) styles
         → (o : Outcome) → o ≡ outcome_of r → Acted w x (insert text n) o y
-    insert-anew no-direct written styled o is =
+    insert-anew no-direct written composes styled o is =
         subst (λ (u : Outcome). Acted w x (insert text n) u y) (sym is)
-        (anew-acted w x y ln pos e l s (with_line q x.tables) c r held refl prep left styles styled written
+        (anew-acted w x y ln pos e l s (with_line q x.tables) c r held refl prep left styles styled written composes
         (insert text n) judged (λ t. (good-after t, place_after t)) refl (λ v h. h) (λ v. refl) (λ v. refl) (λ v k h. h)
-        (λ t v. sym (cond-false (direct d ps text n replies (p t v) (after t v)) (text ∷ []) (redraw d ps x.session.holds replies (p t v) (after t v)) (direct_is t v ∙ no-direct))))
+        (λ t v. sym (cond-false (direct d ps text n replies (p t v) (after t v)) (text ∷ []) (redraw d ps x.session.holds replies (p t v) (after t v)) (direct_is t v ∙ no-direct)))
+        (λ t v. sym (cond-false (direct d ps text n replies (p t v) (after t v)) (buffer_of x.tables) (redrawing d ps replies (p t v) (after t v)) (direct_is t v ∙ no-direct)))
+        (anew.redrawn-layout w x y ln pos e l s (with_line q x.tables) c r held refl prep left styles))
 
     -- written by itself
-    pub insert-direct : again ≡ true → Written w.answered x.terminal (text ∷ []) r y.terminal → (o : Outcome) → o ≡ outcome_of r → Acted w x (insert text n) o y
-    insert-direct direct-now written o is =
+    pub insert-direct : again ≡ true → Written w.answered x.terminal (text ∷ []) r y.terminal → y.tables.renderer ≡ c.renderer → (o : Outcome) → o ≡ outcome_of r → Acted w x (insert text n) o y
+    insert-direct direct-now written untouched o is =
         subst (λ (u : Outcome). Acted w x (insert text n) u y) (sym is)
-        (went-acted w x y (insert text n) r (redrawing.redrawn-settings w x y ln pos e l s (with_line q x.tables) c r held refl prep left styles)
-        (λ t. redrawing.redrawn-sound w x y ln pos e l s (with_line q x.tables) c r held refl prep left styles t (good-after t) (place_after t) (judged.tells t) (met t bare_view).height)
+        (went-acted w x y (insert text n) r (anew.redrawn-settings w x y ln pos e l s (with_line q x.tables) c r held refl prep left styles)
+        (anew.redrawn-layout w x y ln pos e l s (with_line q x.tables) c r held refl prep left styles)
+        (λ t. anew.redrawn-sound w x y ln pos e l s (with_line q x.tables) c r held refl prep left styles t (good-after t) (place_after t) (judged.tells t) (met t bare_view).height)
         judged.refuses
         (λ t v. (record { upper = v.upper; base = v.base; window = (after t v).window }, went t v)))
       where
-        went : (t : Belongs) (v : View) → Went w (settings_of x.session x.tables) (moment_of x v) (insert text n) r (moment_of y (record { upper = v.upper; base = v.base; window = (after t v).window }))
+        went : (t : Belongs) (v : View) → WentBuffered w (settings_of x.session x.tables) (moment_of x v) (insert text n) r (buffer_of x.tables) (buffer_of y.tables) (moment_of y (record { upper = v.upper; base = v.base; window = (after t v).window }))
         went t v =
-            subst (λ (m : Moment T H). Went w (settings_of x.session x.tables) (moment_of x v) (insert text n) r m)
-            (sym (redrawing.redrawn-moment w x y ln pos e l s (with_line q x.tables) c r held refl prep left styles t (good-after t) (place_after t) (judged.tells t) (met t v).height (p t v) refl)) (record {
-              replies = replies;
-              hint = refl;
-              hint_fine = redrawing.hint-fine w x y ln pos e l s (with_line q x.tables) c r held refl prep left styles;
-              page = refl;
-              asks = redrawing.redrawn-heeds w x y ln pos e l s (with_line q x.tables) c r held refl prep left styles t (good-after t) (place_after t) (judged.tells t) (met t v).height (p t v);
-              styled = λ k. absurd (clash (sym (ap not (direct_is t v ∙ direct-now)) ∙ k));
-              written = subst (λ (ws : List (List ℕ)). Written w.answered x.terminal ws r y.terminal) (sym (cond-true (direct d ps text n replies (p t v) (after t v)) (text ∷ []) (redraw d ps x.session.holds replies (p t v) (after t v)) (direct_is t v ∙ direct-now))) written;
-              torn = refl;
+            subst (λ (m : Moment T H). WentBuffered w (settings_of x.session x.tables) (moment_of x v) (insert text n) r (buffer_of x.tables) (buffer_of y.tables) m)
+            (sym (anew.redrawn-moment w x y ln pos e l s (with_line q x.tables) c r held refl prep left styles t (good-after t) (place_after t) (judged.tells t) (met t v).height (p t v) refl)) (record {
+              went = record {
+                replies = replies;
+                hint = refl;
+                hint_fine = anew.hint-fine w x y ln pos e l s (with_line q x.tables) c r held refl prep left styles;
+                page = refl;
+                asks = anew.redrawn-heeds w x y ln pos e l s (with_line q x.tables) c r held refl prep left styles t (good-after t) (place_after t) (judged.tells t) (met t v).height (p t v);
+                styled = λ k. absurd (clash (sym (ap not (direct_is t v ∙ direct-now)) ∙ k));
+                written = subst (λ (ws : List (List ℕ)). Written w.answered x.terminal ws r y.terminal) (sym (cond-true (direct d ps text n replies (p t v) (after t v)) (text ∷ []) (redraw d ps x.session.holds replies (p t v) (after t v)) (direct_is t v ∙ direct-now))) written;
+                torn = refl;
+              };
+              buffer = ap composed (untouched ∙ prep.renderer) ∙ sym (cond-true (direct d ps text n replies (p t v) (after t v)) (buffer_of x.tables) (redrawing d ps replies (p t v) (after t v)) (direct_is t v ∙ direct-now));
             })

@@ -18,7 +18,7 @@ use Rattle.page.specs.declared.outcome.Rejection.TheVariants.{Refused}
 use Rattle.screen.specs.Screen.{Geometry, blank_paper, block, place_row}
 use Rattle.session.proofs.Acting.{refused-acted, went-acted}
 use Rattle.session.proofs.Heights.{front_low, line-good}
-use Rattle.session.proofs.Painting.{painted-settings, painted-sound, painted-went, view_painted}
+use Rattle.session.proofs.Painting.{painted-layout, painted-settings, painted-sound, painted-went, view_painted}
 use Rattle.session.specs.Acting.{Acted, outcome_of, state_of}
 use Rattle.session.specs.Asking.{Asked}
 use Rattle.session.specs.Judging.{JudgesAct}
@@ -88,13 +88,14 @@ module _ {T H : Type 0} (w : World T H) (x : State T H) (t : List ℕ) where
       pub message-acted : Acted w x (message t) o y
       message-acted = subst (λ (q : Outcome). Acted w x (message t) q y) (sym ended)
           (went-acted w x y (message t) r (painted-settings w x y (line_of b.line) b.line.pos (Some t) None l lit (noted n h) r asked.session (refl, refl) refl sets.1 cleared paint)
+          (painted-layout w x y (line_of b.line) b.line.pos (Some t) None l lit (noted n h) r asked.session (refl, refl) refl sets.1 cleared paint)
           (λ sound. painted-sound w x y (line_of b.line) b.line.pos (Some t) None l lit (noted n h) r asked.session (refl, refl) refl sets.1 cleared paint sound (line-good b) (shown sound anywhere))
           j.refuses
           (λ sound v.
           let a = fine sound v in (
             view_painted w x y (line_of b.line) b.line.pos (Some t) None l lit (noted n h) r asked.session (refl, refl) refl sets.1 cleared paint sound (line-good b) (shown sound v) a.size.1 (untorn (is_torn s.standing) a.untorn) v,
             painted-went w x y (line_of b.line) b.line.pos (Some t) None l lit (noted n h) r asked.session (refl, refl) refl sets.1 cleared paint sound (line-good b) (shown sound v) a.size.1 (untorn (is_torn s.standing) a.untorn) v
-                (message t) refl refl asked.heard refl,
+                (message t) refl refl asked.heard refl refl,
           )))
         where
           untorn : (k : Bool) → (k && true) ≡ false → k ≡ false

@@ -14,7 +14,7 @@ use Rattle.lines.specs.declared.note.Note.{Note}
 use Rattle.page.proofs.Admitting.{Admitted, admitted, some-none}
 use Rattle.page.proofs.Spelt.{cut-decodes, good-cut, good-decodes, good_none}
 use Rattle.page.specs.Acts.{Replies, edited, go, noted, settled, stays}
-use Rattle.page.specs.Law.{Heeds, Moment, Went, World, Written, done}
+use Rattle.page.specs.Law.{Heeds, Moment, World, Written, done}
 use Rattle.page.specs.Output.{move_page, redraw}
 use Rattle.page.specs.Page.{Page, note_text}
 use Rattle.page.specs.Rules.{Outcome}
@@ -24,12 +24,13 @@ use Rattle.screen.proofs.Heights.{place-col}
 use Rattle.screen.specs.Output.{move_bytes}
 use Rattle.screen.specs.Places.{place_of}
 use Rattle.screen.specs.Screen.{Geometry, blank_paper, block, place_col, place_row}
-use Rattle.session.proofs.Acting.{refused-acted, went-acted}
+use Rattle.session.proofs.Acting.{WentBuffered, refused-acted, went-acted}
 use Rattle.session.proofs.Heights.{front_low, line-good, open-shown, tall-never}
-use Rattle.session.proofs.Painting.{answers, painted-settings, painted-sound, painted-went, view_painted}
-use Rattle.session.proofs.Redrawing.{drawn-lit, drawn-settings, drawn-torn, low-bare}
+use Rattle.session.proofs.Painting.{answers, painted-layout, painted-settings, painted-sound, painted-went, view_painted}
+use Rattle.session.proofs.Redrawing.{drawn-layout, drawn-lit, drawn-settings, drawn-torn, low-bare}
 use Rattle.session.specs.Acting.{Acted, outcome_of, state_of}
 use Rattle.session.specs.Asking.{with_lit}
+use Rattle.session.specs.Buffering.{buffer_of, redrawing}
 use Rattle.session.specs.Going.{Bared, CursorAt, Follows, LaysBare, MovesCursor, Shifted, with_line, with_note}
 use Rattle.session.specs.Judging.{JudgesAct}
 use Rattle.session.specs.Painting.{drawn_to}
@@ -174,22 +175,25 @@ module _ {T H : Type 0} (w : World T H) (x : State T H) (pos : ℕ) where
           torn = untorn sound i;
         }
 
-        unmoved-went : Belongs → (v : View) → Went w (settings_of s b) (moment_of x v) (go pos) (Ok tt) (moment_of unmoved v)
+        unmoved-went : Belongs → (v : View) → WentBuffered w (settings_of s b) (moment_of x v) (go pos) (Ok tt) (buffer_of b) (buffer_of b) (moment_of unmoved v)
         unmoved-went sound v =
             let st = stays-true sound v in
-            subst (λ (m : Moment T H). Went w (settings_of s b) (moment_of x v) (go pos) (Ok tt) m) (sym (unmoved-moment sound v)) (record {
-              replies = silent;
-              hint = refl;
-              hint_fine = λ t e. some-none e;
-              page = sym (cond-true (stays d ps (page_now v) (page_then v)) (page_then v) _ st);
-              asks = subst (λ (q : Bool). cond q (x.highlighter ≡ x.highlighter) (Heeds w (settings_of s b) w.heeds_move x.highlighter ln pos false x.highlighter)) (sym st) refl;
-              styled = λ e. absurd (false≢true (sym (ap (λ q. not q && (false || s.lit)) st) ∙ e));
-              written = subst (λ (q : Bool). Written w.answered x.terminal (cond q [] (cond (false || s.lit) (redraw d ps s.holds silent (page_now v) (page_then v)) (move_page d ps (page_now v) (page_then v) ∷ []))) (Ok tt) x.terminal) (sym st) done;
-              torn = refl;
+            subst (λ (m : Moment T H). WentBuffered w (settings_of s b) (moment_of x v) (go pos) (Ok tt) (buffer_of b) (buffer_of b) m) (sym (unmoved-moment sound v)) (record {
+              went = record {
+                replies = silent;
+                hint = refl;
+                hint_fine = λ t e. some-none e;
+                page = sym (cond-true (stays d ps (page_now v) (page_then v)) (page_then v) _ st);
+                asks = subst (λ (q : Bool). cond q (x.highlighter ≡ x.highlighter) (Heeds w (settings_of s b) w.heeds_move x.highlighter ln pos false x.highlighter)) (sym st) refl;
+                styled = λ e. absurd (false≢true (sym (ap (λ q. not q && (false || s.lit)) st) ∙ e));
+                written = subst (λ (q : Bool). Written w.answered x.terminal (cond q [] (cond (false || s.lit) (redraw d ps s.holds silent (page_now v) (page_then v)) (move_page d ps (page_now v) (page_then v) ∷ []))) (Ok tt) x.terminal) (sym st) done;
+                torn = refl;
+              };
+              buffer = sym (cond-true (stays d ps (page_now v) (page_then v)) (buffer_of b) (cond (false || s.lit) (redrawing d ps silent (page_now v) (page_then v)) (move_page d ps (page_now v) (page_then v))) st);
             })
 
         pub go-unmoved : Acted w x (go pos) (Ok tt) unmoved
-        go-unmoved = went-acted w x unmoved (go pos) (Ok tt) refl unmoved-sound j.refuses (λ sound v. (v, unmoved-went sound v))
+        go-unmoved = went-acted w x unmoved (go pos) (Ok tt) refl (λ _. refl) unmoved-sound j.refuses (λ sound v. (v, unmoved-went sound v))
 
       -- the cursor goes to another place
       module _ (apart : (eqb s.layout.cursor.row place.row && eqb s.layout.cursor.col place.col) ≡ false) (r : Result Unit BrokenAct) (y : State T H) (m : MovesCursor w place (state_of x.terminal x.highlighter s (with_line n b)) r y) where
@@ -245,15 +249,21 @@ module _ {T H : Type 0} (w : World T H) (x : State T H) (pos : ℕ) where
               sym (cond-false (stays d ps (page_now v) (page_then v)) [] (cond (lit || s.lit) (bare_writes v) (move_page d ps (page_now v) (page_bare v) ∷ [])) (stays-false sound v)
               ∙ cond-true (lit || s.lit) (bare_writes v) (move_page d ps (page_now v) (page_bare v) ∷ []) wanted)
 
+          bare-buffer : Belongs → (v : View) → redrawing d ps bare_replies (page_now v) (page_bare v) ≡ cond (stays d ps (page_now v) (page_then v)) (buffer_of b) (cond (lit || s.lit) (redrawing d ps bare_replies (page_now v) (page_bare v)) (move_page d ps (page_now v) (page_bare v)))
+          bare-buffer sound v =
+              sym (cond-false (stays d ps (page_now v) (page_then v)) (buffer_of b) (cond (lit || s.lit) (redrawing d ps bare_replies (page_now v) (page_bare v)) (move_page d ps (page_now v) (page_bare v))) (stays-false sound v)
+              ∙ cond-true (lit || s.lit) (redrawing d ps bare_replies (page_now v) (page_bare v)) (move_page d ps (page_now v) (page_bare v)) wanted)
+
           drawn-acted : Acted w x (go pos) (outcome_of r) y
           drawn-acted =
               went-acted w x y (go pos) r (painted-settings w x y ln pos None (note_of b.hint) bared.layout m.session (with_note bared.note (with_line n b)) r lit-same held refl bared.dropped refl bared.paints)
+              (painted-layout w x y ln pos None (note_of b.hint) bared.layout m.session (with_note bared.note (with_line n b)) r lit-same held refl bared.dropped refl bared.paints)
               (λ sound. painted-sound w x y ln pos None (note_of b.hint) bared.layout m.session (with_note bared.note (with_line n b)) r lit-same held refl bared.dropped refl bared.paints sound (line-good b) (bare-shown sound))
               j.refuses
               (λ sound v. (
                 view_painted w x y ln pos None (note_of b.hint) bared.layout m.session (with_note bared.note (with_line n b)) r lit-same held refl bared.dropped refl bared.paints sound (line-good b) (bare-shown sound) (fine sound v).size.1 (untorn sound) v,
                 painted-went w x y ln pos None (note_of b.hint) bared.layout m.session (with_note bared.note (with_line n b)) r lit-same held refl bared.dropped refl bared.paints sound (line-good b) (bare-shown sound) (fine sound v).size.1 (untorn sound) v
-                    (go pos) refl (bare-page sound v) (asks sound v) (bare-writes sound v),
+                    (go pos) refl (bare-page sound v) (asks sound v) (bare-writes sound v) (bare-buffer sound v),
               ))
 
         -- alone
@@ -342,30 +352,45 @@ module _ {T H : Type 0} (w : World T H) (x : State T H) (pos : ℕ) where
               (subst (λ (q : Position). Written w.answered x.terminal (move_bytes q.row q.col place.row place.col ∷ []) r y.terminal) (was sound).laid.cursor
               (subst (λ (t : Session). Written w.answered x.terminal (move_bytes t.layout.cursor.row t.layout.cursor.col place.row place.col ∷ []) r y.terminal) lit-same shifted.written))
 
+          -- and it stands in the draw buffer
+          move-bytes : Belongs → (v : View) → buffer_of y.tables ≡ move_page d ps (page_now v) (page_moved v)
+          move-bytes sound v =
+              shifted.bytes ∙ ap (λ (t : Session). move_bytes t.layout.cursor.row t.layout.cursor.col place.row place.col) lit-same
+              ∙ ap (λ (q : Position). move_bytes q.row q.col place.row place.col) (was sound).laid.cursor
+              ∙ ap (λ (q : Position). move_bytes (place_row d (block d (ps ++ chars (take b.line.pos ln)))) (place_col d (block d (ps ++ chars (take b.line.pos ln)))) q.row q.col) (place_is sound)
+
           abbrev move_anew : View → List (List ℕ)
           move_anew v = redraw d ps s.holds move_replies (page_now v) (page_moved v)
 
-          moved-went : Belongs → (v : View) → Went w (settings_of s b) (moment_of x v) (go pos) r (moment_of moved v)
+          abbrev buffer_anew : View → List ℕ
+          buffer_anew v = redrawing d ps move_replies (page_now v) (page_moved v)
+
+          moved-went : Belongs → (v : View) → WentBuffered w (settings_of s b) (moment_of x v) (go pos) r (buffer_of b) (buffer_of y.tables) (moment_of moved v)
           moved-went sound v =
               let st = stays-false sound v in
-              subst (λ (t : Moment T H). Went w (settings_of s b) (moment_of x v) (go pos) r t) (sym (moved-moment v)) (record {
-                replies = move_replies;
-                hint = refl;
-                hint_fine = λ t e. some-none e;
-                page = sym (cond-false (stays d ps (page_now v) (page_then v)) (page_then v) (cond (lit || s.lit) (page_anew v) (page_moved v)) st ∙ cond-false (lit || s.lit) (page_anew v) (page_moved v) unlit);
-                asks = asks sound v;
-                styled = λ e. absurd (false≢true (sym (and_right (not (stays d ps (page_now v) (page_then v))) (lit || s.lit) unlit) ∙ e));
-                written = subst (λ (ws : List (List ℕ)). Written w.answered x.terminal ws r y.terminal)
-                    (sym (cond-false (stays d ps (page_now v) (page_then v)) [] (cond (lit || s.lit) (move_anew v) (move_page d ps (page_now v) (page_moved v) ∷ [])) st
-                    ∙ cond-false (lit || s.lit) (move_anew v) (move_page d ps (page_now v) (page_moved v) ∷ []) unlit))
-                    (move-written sound v);
-                torn = refl;
+              subst (λ (t : Moment T H). WentBuffered w (settings_of s b) (moment_of x v) (go pos) r (buffer_of b) (buffer_of y.tables) t) (sym (moved-moment v)) (record {
+                went = record {
+                  replies = move_replies;
+                  hint = refl;
+                  hint_fine = λ t e. some-none e;
+                  page = sym (cond-false (stays d ps (page_now v) (page_then v)) (page_then v) (cond (lit || s.lit) (page_anew v) (page_moved v)) st ∙ cond-false (lit || s.lit) (page_anew v) (page_moved v) unlit);
+                  asks = asks sound v;
+                  styled = λ e. absurd (false≢true (sym (and_right (not (stays d ps (page_now v) (page_then v))) (lit || s.lit) unlit) ∙ e));
+                  written = subst (λ (ws : List (List ℕ)). Written w.answered x.terminal ws r y.terminal)
+                      (sym (cond-false (stays d ps (page_now v) (page_then v)) [] (cond (lit || s.lit) (move_anew v) (move_page d ps (page_now v) (page_moved v) ∷ [])) st
+                      ∙ cond-false (lit || s.lit) (move_anew v) (move_page d ps (page_now v) (page_moved v) ∷ []) unlit))
+                      (move-written sound v);
+                  torn = refl;
+                };
+                buffer = move-bytes sound v
+                    ∙ sym (cond-false (stays d ps (page_now v) (page_then v)) (buffer_of b) (cond (lit || s.lit) (buffer_anew v) (move_page d ps (page_now v) (page_moved v))) st
+                    ∙ cond-false (lit || s.lit) (buffer_anew v) (move_page d ps (page_now v) (page_moved v)) unlit);
               })
 
           shifted-acted : Acted w x (go pos) (outcome_of r) y
           shifted-acted =
               subst (λ (q : State T H). Acted w x (go pos) (outcome_of r) q) (sym moved-is)
-              (went-acted w x moved (go pos) r (drawn-settings shifted.layout (with_lit lit s) tables r) moved-sound j.refuses (λ sound v. (v, moved-went sound v)))
+              (went-acted w x moved (go pos) r (drawn-settings shifted.layout (with_lit lit s) tables r) (drawn-layout shifted.layout (with_lit lit s) r) moved-sound j.refuses (λ sound v. (v, moved-went sound v)))
 
         pub go-moved : (o : Outcome) → o ≡ outcome_of r → Acted w x (go pos) o y
         go-moved o ended = subst (λ (q : Outcome). Acted w x (go pos) q y) (sym ended) (by (cases_Bool m.anew))

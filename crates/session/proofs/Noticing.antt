@@ -1,5 +1,5 @@
 -- A notice printed above the block: the page that follows, and what the session then holds.
-use Rattle.std.proofs.Common.{◌≡◌, ℕ, Bool, false, List, [], is_err, Some, None, Ok, Err, Option, Result, sym, refl, ap, ◌∙◌, subst, arith}
+use Rattle.std.proofs.Common.{◌≡◌, ℕ, Bool, true, false, List, [], ◌++◌, is_err, Some, None, Ok, Err, Option, Result, sym, refl, ap, ◌∙◌, subst, arith}
 use Rattle.judging.proofs.Fitting.{stored-fine}
 use Rattle.judging.specs.Fitting.{LaidOut}
 use Rattle.judging.specs.Judgements.{Low}
@@ -18,7 +18,7 @@ use Rattle.measuring.specs.declared.measuring.LineEnds.{LineEnds}
 use Rattle.page.proofs.Admitting.{Admitted, admitted, some-none}
 use Rattle.page.proofs.Spelt.{good_none}
 use Rattle.page.specs.Acts.{Replies, noted, notice, printed, settled}
-use Rattle.page.specs.Law.{Moment, Settings, StyledBy, Went, World, Written}
+use Rattle.page.specs.Law.{Moment, Settings, StyledBy, World, Written}
 use Rattle.page.specs.Output.{draw_page, erase_page, framed}
 use Rattle.page.specs.Page.{Page}
 use Rattle.page.specs.Rules.{Outcome}
@@ -28,12 +28,13 @@ use Rattle.render.specs.Drawing.{Texts, draw_layout, texts_of}
 use Rattle.render.specs.Notices.{Printed, notice_writes}
 use Rattle.render.specs.declared.renderer.PosixRenderer.{PosixRenderer}
 use Rattle.screen.specs.Screen.{Geometry}
-use Rattle.session.proofs.Acting.{went-acted}
+use Rattle.session.proofs.Acting.{WentBuffered, went-acted}
 use Rattle.session.proofs.Finishing.{no_view, not-torn, same-behind}
 use Rattle.session.proofs.Heights.{line-good, open-shown, tall-never}
 use Rattle.session.proofs.Layouts.{laid-draws, laid-erases, page_texts, replies_of, styled-page}
 use Rattle.session.proofs.Redrawing.{settings-prompt}
 use Rattle.session.specs.Acting.{Acted, outcome_of, state_of}
+use Rattle.session.specs.Buffering.{buffer_of, redrawing}
 use Rattle.session.specs.Judging.{JudgesEnds}
 use Rattle.session.specs.Noticing.{LaysNote, Noticed, noticed_to}
 use Rattle.session.specs.Painting.{drawn_to, laid_at}
@@ -41,6 +42,7 @@ use Rattle.session.specs.Sessions.{Shown, Sound, State, View, is_torn, moment_of
 use Rattle.session.specs.Styling.{StyledTexts}
 use Rattle.session.specs.declared.session.Session.{Session}
 use Rattle.session.specs.declared.tables.Tables.{Tables}
+use Rattle.std.proofs.lemmas.Bool.{false≢true}
 use Rattle.terminal.specs.Windows.{geometry}
 use Rattle.terminal.specs.declared.size.Size.{Size}
 use Rattle.terminal.specs.Answers.{WriteAnswer}
@@ -76,6 +78,10 @@ noticed l none text s t b x y r note renderer copied blank is print = record { p
 noticed-torn : (l o : Layout) (s : Session) (r : Result Unit BrokenAct) → is_torn (noticed_to l o s r).standing ≡ is_err r
 noticed-torn l o s (Ok u) = refl
 noticed-torn l o s (Err e) = refl
+
+noticed-layout : (l o : Layout) (s : Session) (r : Result Unit BrokenAct) → is_err r ≡ true → (noticed_to l o s r).layout ≡ o
+noticed-layout l o s (Ok u) e = absurd (false≢true e)
+noticed-layout l o s (Err b) e = refl
 
 noticed-lit : (l o : Layout) (s : Session) (r : Result Unit BrokenAct) → (noticed_to l o s r).lit ≡ s.lit
 noticed-lit l o s (Ok u) = refl
@@ -119,6 +125,10 @@ module _ {T H : Type 0} (w : World T H) (x : State T H) (text : List ℕ) (e : L
 
   settings-same : settings_of n c ≡ z
   settings-same = ap (λ (q : Session). settings_of q c) went.session ∙ noticed-settings l went.none s c r ∙ settings-prompt s b c went.prompt
+
+  -- broken, it leaves no layout
+  layout-none : is_err r ≡ true → LaidAs 1 corner corner corner n.layout
+  layout-none broken = subst (λ (q : Layout). LaidAs 1 corner corner corner q) (sym (ap (λ (q : Session). q.layout) went.session ∙ noticed-layout l went.none s r broken)) went.blank
 
   hint-now : note_of c.hint ≡ hint
   hint-now = ap note_of went.hint
@@ -205,20 +215,30 @@ module _ {T H : Type 0} (w : World T H) (x : State T H) (text : List ℕ) (e : L
           subst (λ (bs : List ℕ). Written w.answered x.terminal (framed s.holds (notice_writes (erase_page d ps page_before) text bs)) r t) (laid-draws d ps page_next l laid replies)
           (subst (λ (bs : List ℕ). Written w.answered x.terminal (framed s.holds (notice_writes bs text (draw_layout went.print.styles l))) r t) (laid-erases d ps page_before s.layout was-shown.laid) went.print.written)
 
-      notice-went : Went w z (moment_of x v) (notice text) r (moment_of y view_after)
-      notice-went = subst (λ (m : Moment T H). Went w z (moment_of x v) (notice text) r m) (sym moment-next) (record {
-        replies = replies;
-        hint = refl;
-        hint_fine = λ u q. some-none q;
-        page = refl;
-        asks = refl;
-        styled = λ _. styled-next;
-        written = written_next;
-        torn = refl;
+      -- both drawings stand in the draw buffer, one behind the other
+      bytes_next : buffer_of c ≡ redrawing d ps replies page_before page_next
+      bytes_next =
+          went.print.bytes
+          ∙ ap (λ (bs : List ℕ). bs ++ draw_layout went.print.styles l) (laid-erases d ps page_before s.layout was-shown.laid)
+          ∙ ap (λ (bs : List ℕ). erase_page d ps page_before ++ bs) (laid-draws d ps page_next l laid replies)
+
+      notice-went : WentBuffered w z (moment_of x v) (notice text) r (buffer_of b) (buffer_of c) (moment_of y view_after)
+      notice-went = subst (λ (m : Moment T H). WentBuffered w z (moment_of x v) (notice text) r (buffer_of b) (buffer_of c) m) (sym moment-next) (record {
+        went = record {
+          replies = replies;
+          hint = refl;
+          hint_fine = λ u q. some-none q;
+          page = refl;
+          asks = refl;
+          styled = λ _. styled-next;
+          written = written_next;
+          torn = refl;
+        };
+        buffer = bytes_next;
       })
 
   -- a notice that no rule refuses
   pub notice-acted : (o : Outcome) → o ≡ outcome_of r → Acted w x (notice text) o y
   notice-acted o is =
       subst (λ (q : Outcome). Acted w x (notice text) q y) (sym is)
-      (went-acted w x y (notice text) r settings-same sound-still judged.refuses (λ sound v. (view_after sound v, notice-went sound v)))
+      (went-acted w x y (notice text) r settings-same layout-none sound-still judged.refuses (λ sound v. (view_after sound v, notice-went sound v)))

@@ -1,5 +1,5 @@
 -- A line drawn anew with a note and a hint that are known: the page that follows, and what the session then holds.
-use Rattle.std.proofs.Common.{◌≡◌, ℕ, false, cond, List, [], ◌∷◌, ◌++◌, is_ok, is_err, None, Ok, Err, Option, Result, sym, refl, ap, ◌∙◌, subst}
+use Rattle.std.proofs.Common.{◌≡◌, ℕ, true, false, cond, List, [], ◌∷◌, ◌++◌, is_ok, is_err, None, Ok, Err, Option, Result, sym, refl, ap, ◌∙◌, subst}
 use Rattle.judging.specs.Judgements.{Behind}
 use Rattle.layout.specs.declared.block.Layout.{Layout}
 use Rattle.lines.specs.Lines.{Holds, line_of}
@@ -10,16 +10,18 @@ use Rattle.lines.specs.declared.prompt.Prompt.{Prompt}
 use Rattle.page.proofs.Admitting.{some-none}
 use Rattle.page.proofs.Spelt.{good_none}
 use Rattle.page.specs.Acts.{Act, Replies, asks_hinter, edited, line_after, noted, page_after, pos_after, settled}
-use Rattle.page.specs.Law.{Asks, Moment, Settings, StyledBy, Went, World, Written}
+use Rattle.page.specs.Law.{Asks, Moment, Settings, StyledBy, World, Written}
 use Rattle.page.specs.Output.{draw_page, framed, redraw, writes}
 use Rattle.page.specs.Page.{Page}
 use Rattle.page.specs.declared.outcome.BrokenAct.{BrokenAct}
 use Rattle.render.specs.Drawing.{Texts, draw_layout, erase_layout, texts_of}
 use Rattle.screen.specs.Screen.{Geometry}
+use Rattle.session.proofs.Acting.{WentBuffered}
 use Rattle.session.proofs.Heights.{open-shown, tall-never}
 use Rattle.session.proofs.Layouts.{laid-draws, laid-erases, page_texts, replies_of, styled-page}
-use Rattle.session.proofs.Redrawing.{drawn-lit, drawn-settings, drawn-torn, settings-prompt}
+use Rattle.session.proofs.Redrawing.{drawn-layout, drawn-lit, drawn-settings, drawn-torn, settings-prompt}
 use Rattle.session.specs.Asking.{with_lit}
+use Rattle.session.specs.Buffering.{buffer_after, buffer_of, redrawing}
 use Rattle.session.specs.Painting.{Painted, drawn_to}
 use Rattle.session.specs.Sessions.{Shown, Sound, State, View, is_torn, moment_of, page_of, prompt_of, settings_of}
 use Rattle.session.specs.Styling.{StyledTexts}
@@ -70,6 +72,10 @@ module _ {T H : Type 0} (w : World T H) (x y : State T H) (ln : List ℕ) (pos :
       ap (λ (t : Session). settings_of t y.tables) paint.session ∙ drawn-settings l s y.tables r
       ∙ ap (λ (t : Session). settings_of t y.tables) lit-same ∙ settings-prompt x.session x.tables y.tables prompt-same
 
+  -- and, broken, the layout
+  pub painted-layout : is_err r ≡ true → y.session.layout ≡ x.session.layout
+  painted-layout broken = ap (λ (t : Session). t.layout) paint.session ∙ drawn-layout l s r broken ∙ ap (λ (t : Session). t.layout) lit-same
+
   -- the page drawn, from another that has its upper rows
   abbrev pub page_painted : Page → Page
   page_painted p = settled d ps (noted d ps note hint s.lit (edited d ps ln pos p))
@@ -109,6 +115,12 @@ module _ {T H : Type 0} (w : World T H) (x y : State T H) (ln : List ℕ) (pos :
         subst (λ (bs : List ℕ). Written w.answered x.terminal (framed x.session.holds ((erase_layout x.session.layout ++ bs) ∷ [])) r y.terminal) (laid-draws d ps (page_painted p) l shown.laid answers)
         (subst (λ (t : Session). Written w.answered x.terminal (framed t.holds ((erase_layout t.layout ++ draw_layout paint.drew.styles l) ∷ [])) r y.terminal) lit-same paint.drew.written)
 
+    -- what is drawn stands in the draw buffer
+    painted-bytes : (p : Page) → buffer_of y.tables ≡ erase_layout x.session.layout ++ draw_page d ps answers (page_painted p)
+    painted-bytes p =
+        paint.drew.bytes ∙ ap (λ (t : Session). erase_layout t.layout ++ draw_layout paint.drew.styles l) lit-same
+        ∙ ap (λ (bs : List ℕ). erase_layout x.session.layout ++ bs) (laid-draws d ps (page_painted p) l shown.laid answers)
+
     behind : Behind w.columns x.session.size (prompt_of y.tables) x.session.prompt
     behind = subst (λ (q : Prompt). Behind w.columns x.session.size (prompt_of (with_prompt q x.tables)) x.session.prompt) (sym prompt-same) sound.prompt
 
@@ -147,20 +159,27 @@ module _ {T H : Type 0} (w : World T H) (x y : State T H) (ln : List ℕ) (pos :
       redraws : Written w.answered x.terminal (redraw d ps x.session.holds answers page_before (page_painted page_before)) r y.terminal
       redraws = subst (λ (bs : List ℕ). Written w.answered x.terminal (framed x.session.holds ((bs ++ draw_page d ps answers (page_painted page_before)) ∷ [])) r y.terminal) (laid-erases d ps page_before x.session.layout was-shown.laid) (painted-written page_before)
 
+      redrawn-bytes : buffer_of y.tables ≡ redrawing d ps answers page_before (page_painted page_before)
+      redrawn-bytes = painted-bytes page_before ∙ ap (λ (bs : List ℕ). bs ++ draw_page d ps answers (page_painted page_before)) (laid-erases d ps page_before x.session.layout was-shown.laid)
+
       -- an act that draws the line anew and asks no hinter went by the law
       pub painted-went : (a : Act) → None ≡ cond (asks_hinter a) (w.hints (line_after a page_before) (pos_after a page_before)) None
           → page_painted page_before ≡ page_after d ps (w.screen x.terminal) a answers (is_ok r) page_before
           → Asks w z a page_before (page_painted page_before) x.highlighter s.lit y.highlighter
           → redraw d ps x.session.holds answers page_before (page_painted page_before) ≡ writes d ps x.session.holds (is_torn x.session.standing) a answers page_before (page_painted page_before)
-          → Went w z (moment_of x v) a r (moment_of y view_painted)
-      painted-went a unasked page asks same_writes =
-          subst (λ (n : Moment T H). Went w z (moment_of x v) a r n) (sym (painted-moment page_before refl)) (record {
-            replies = answers;
-            hint = unasked;
-            hint_fine = λ t e. some-none e;
-            page = page;
-            asks = asks;
-            styled = λ _. painted-styled page_before;
-            written = subst (λ (ws : List (List ℕ)). Written w.answered x.terminal ws r y.terminal) same_writes redraws;
-            torn = refl;
+          → redrawing d ps answers page_before (page_painted page_before) ≡ buffer_after d ps a answers page_before (page_painted page_before) (buffer_of x.tables)
+          → WentBuffered w z (moment_of x v) a r (buffer_of x.tables) (buffer_of y.tables) (moment_of y view_painted)
+      painted-went a unasked page asks same_writes same_buffer =
+          subst (λ (n : Moment T H). WentBuffered w z (moment_of x v) a r (buffer_of x.tables) (buffer_of y.tables) n) (sym (painted-moment page_before refl)) (record {
+            went = record {
+              replies = answers;
+              hint = unasked;
+              hint_fine = λ t e. some-none e;
+              page = page;
+              asks = asks;
+              styled = λ _. painted-styled page_before;
+              written = subst (λ (ws : List (List ℕ)). Written w.answered x.terminal ws r y.terminal) same_writes redraws;
+              torn = refl;
+            };
+            buffer = redrawn-bytes ∙ same_buffer;
           })

@@ -15,7 +15,7 @@ use Rattle.page.proofs.Admitting.{Admitted, admitted}
 use Rattle.page.proofs.Propriety.{Bare-low, Fitted, fitted-is}
 use Rattle.page.proofs.Spelt.{good_none}
 use Rattle.page.specs.Acts.{Act, Replies, asks_hinter, edited, fitted, hinted, line_after, page_after, pos_after}
-use Rattle.page.specs.Law.{Asks, Heeds, Moment, Settings, StyledBy, Went, World, Written}
+use Rattle.page.specs.Law.{Asks, Heeds, Moment, Settings, StyledBy, World, Written}
 use Rattle.page.specs.Output.{draw_page, framed, redraw, writes}
 use Rattle.page.specs.Page.{Page}
 use Rattle.page.specs.Rules.{AtBoundary, HeightFine, mends}
@@ -23,11 +23,12 @@ use Rattle.page.specs.declared.outcome.BrokenAct.{BrokenAct}
 use Rattle.render.specs.Drawing.{Styles, Texts, draw_layout, erase_layout, old_rows, texts_of}
 use Rattle.screen.specs.Output.{erase_bytes}
 use Rattle.screen.specs.Screen.{Geometry, blank_paper, block, place_row}
-use Rattle.session.proofs.Acting.{went-acted}
+use Rattle.session.proofs.Acting.{WentBuffered, went-acted}
 use Rattle.session.proofs.Heights.{open-shown, tall-never}
 use Rattle.session.proofs.Layouts.{laid-draws, laid-erases, page_texts, replies_of, styled-page}
-use Rattle.session.specs.Acting.{Acted, outcome_of}
+use Rattle.session.specs.Acting.{Acted, LeavesLayout, outcome_of}
 use Rattle.session.specs.Asking.{with_lit}
+use Rattle.session.specs.Buffering.{buffer_after, buffer_of, redrawing}
 use Rattle.session.specs.Judging.{JudgesEnds}
 use Rattle.session.specs.Painting.{Painted, drawn_to}
 use Rattle.session.specs.Preparing.{Prepared}
@@ -49,6 +50,11 @@ drawn-torn l s (Err b) = refl
 pub drawn-lit : (l : Layout) (s : Session) (r : Result Unit BrokenAct) → (drawn_to l s r).lit ≡ s.lit
 drawn-lit l s (Ok u) = refl
 drawn-lit l s (Err b) = refl
+
+-- a broken drawing leaves the layout as it was
+pub drawn-layout : (l : Layout) (s : Session) (r : Result Unit BrokenAct) → is_err r ≡ true → (drawn_to l s r).layout ≡ s.layout
+drawn-layout l s (Ok u) e = absurd (let z : ◌≡◌ {A = ℕ} 0 1 = cc in omega arith)
+drawn-layout l s (Err b) e = refl
 
 pub drawn-settings : (l : Layout) (s : Session) (b : Tables) (r : Result Unit BrokenAct) → settings_of (drawn_to l s r) b ≡ settings_of s b
 drawn-settings l s b (Ok u) = refl
@@ -131,6 +137,10 @@ module _ {T H : Type 0} (w : World T H) (x y : State T H) (ln : List ℕ) (pos :
   redrawn-settings =
       ap (λ (t : Session). settings_of t y.tables) left.session ∙ drawn-settings l s y.tables r
       ∙ ap (λ (t : Session). settings_of t y.tables) lit-same ∙ settings-prompt x.session x.tables y.tables prompt-same
+
+  -- and, broken, the layout
+  pub redrawn-layout : is_err r ≡ true → y.session.layout ≡ x.session.layout
+  redrawn-layout broken = ap (λ (t : Session). t.layout) left.session ∙ drawn-layout l s r broken ∙ ap (λ (t : Session). t.layout) lit-same
 
   hint-is : w.hints (line_of b.line) b.line.pos ≡ hint
   hint-is i = w.hints (held.0 i) (held.1 i)
@@ -238,21 +248,25 @@ module _ {T H : Type 0} (w : World T H) (x y : State T H) (ln : List ℕ) (pos :
 
     -- an act that draws the line so, from a page with its upper rows, went by the law
     pub redrawn-went : StyledTexts (w.lights y.highlighter) (w.lights_prompt y.highlighter) (w.lights_hint y.highlighter) s.colours (texts_of c.prompt c.line c.note) styles
-        → (m : Moment T H) (a : Act) (p : Page) → p.ended ≡ false → hint ≡ cond (asks_hinter a) (w.hints (line_after a m.page) (pos_after a m.page)) None
+        → (before : List ℕ) (m : Moment T H) (a : Act) (p : Page) → p.ended ≡ false → hint ≡ cond (asks_hinter a) (w.hints (line_after a m.page) (pos_after a m.page)) None
         → page_next p ≡ page_after d ps (w.screen m.terminal) a replies (is_ok r) m.page
         → Asks w z a m.page (page_next p) m.highlighter s.lit y.highlighter
         → Written w.answered m.terminal (writes d ps x.session.holds m.torn a replies m.page (page_next p)) r y.terminal
-        → Went w z m a r (moment_of y (record { upper = p.upper; base = p.base; window = (page_next p).window }))
-    redrawn-went styled m a p live hints page asks written =
-        subst (λ (n : Moment T H). Went w z m a r n) (sym (redrawn-moment p live)) (record {
-          replies = replies;
-          hint = hints;
-          hint_fine = hint-fine;
-          page = page;
-          asks = asks;
-          styled = λ _. redrawn-styled styled p;
-          written = written;
-          torn = refl;
+        → buffer_of y.tables ≡ buffer_after d ps a replies m.page (page_next p) before
+        → WentBuffered w z m a r before (buffer_of y.tables) (moment_of y (record { upper = p.upper; base = p.base; window = (page_next p).window }))
+    redrawn-went styled before m a p live hints page asks written bytes =
+        subst (λ (n : Moment T H). WentBuffered w z m a r before (buffer_of y.tables) n) (sym (redrawn-moment p live)) (record {
+          went = record {
+            replies = replies;
+            hint = hints;
+            hint_fine = hint-fine;
+            page = page;
+            asks = asks;
+            styled = λ _. redrawn-styled styled p;
+            written = written;
+            torn = refl;
+          };
+          buffer = bytes;
         })
 
     -- where the block was on the screen, from above whatever rows
@@ -272,25 +286,33 @@ module _ {T H : Type 0} (w : World T H) (x y : State T H) (ln : List ℕ) (pos :
           → Written w.answered x.terminal (redraw d ps x.session.holds replies page_before (page_next page_before)) r y.terminal
       anew-written drawn = subst (λ (bs : List ℕ). Written w.answered x.terminal (framed x.session.holds ((bs ++ draw_page d ps replies (page_next page_before)) ∷ [])) r y.terminal) (laid-erases d ps page_before x.session.layout was-shown.laid) (redrawn-written drawn page_before)
 
+      -- and so the draw buffer holds it
+      pub anew-bytes : buffer_of y.tables ≡ old_rows (Some s.layout) ++ draw_layout styles l → buffer_of y.tables ≡ redrawing d ps replies page_before (page_next page_before)
+      anew-bytes composes = composes ∙ redrawn-bytes page_before ∙ ap (λ (bs : List ℕ). bs ++ draw_page d ps replies (page_next page_before)) (laid-erases d ps page_before x.session.layout was-shown.laid)
+
       -- an act that draws the line anew went by the law
       pub anew-went : (a : Act) → StyledTexts (w.lights y.highlighter) (w.lights_prompt y.highlighter) (w.lights_hint y.highlighter) s.colours (texts_of c.prompt c.line c.note) styles
           → Written w.answered x.terminal (framed s.holds ((old_rows (Some s.layout) ++ draw_layout styles l) ∷ [])) r y.terminal
+          → buffer_of y.tables ≡ old_rows (Some s.layout) ++ draw_layout styles l
           → hint ≡ cond (asks_hinter a) (w.hints (line_after a page_before) (pos_after a page_before)) None
           → page_next page_before ≡ page_after d ps (w.screen x.terminal) a replies (is_ok r) page_before
           → Asks w z a page_before (page_next page_before) x.highlighter s.lit y.highlighter
           → redraw d ps x.session.holds replies page_before (page_next page_before) ≡ writes d ps x.session.holds (is_torn x.session.standing) a replies page_before (page_next page_before)
-          → Went w z (moment_of x v) a r (moment_of y view_after)
-      anew-went a styled written hints page asks same_writes =
-          redrawn-went styled (moment_of x v) a page_before refl hints page asks (subst (λ (ws : List (List ℕ)). Written w.answered x.terminal ws r y.terminal) same_writes (anew-written written))
+          → redrawing d ps replies page_before (page_next page_before) ≡ buffer_after d ps a replies page_before (page_next page_before) (buffer_of x.tables)
+          → WentBuffered w z (moment_of x v) a r (buffer_of x.tables) (buffer_of y.tables) (moment_of y view_after)
+      anew-went a styled written composes hints page asks same_writes same_buffer =
+          redrawn-went styled (buffer_of x.tables) (moment_of x v) a page_before refl hints page asks (subst (λ (ws : List (List ℕ)). Written w.answered x.terminal ws r y.terminal) same_writes (anew-written written)) (anew-bytes composes ∙ same_buffer)
 
   -- an act that draws the line anew is a step of a run
   module _ (styled : StyledTexts (w.lights y.highlighter) (w.lights_prompt y.highlighter) (w.lights_hint y.highlighter) s.colours (texts_of c.prompt c.line c.note) styles) (written : Written w.answered x.terminal (framed s.holds ((old_rows (Some s.layout) ++ draw_layout styles l) ∷ [])) r y.terminal)
-      (a : Act) (judged : JudgesEnds w.columns x.session x.tables (w.extent x.terminal) a ln pos (Ok e)) (fine : Sound w.columns x.session x.tables → GoodText ln × AtBoundary ln pos)
+      (composes : buffer_of y.tables ≡ old_rows (Some s.layout) ++ draw_layout styles l) (a : Act) (judged : JudgesEnds w.columns x.session x.tables (w.extent x.terminal) a ln pos (Ok e)) (fine : Sound w.columns x.session x.tables → GoodText ln × AtBoundary ln pos)
       (keeps : mends a ≡ false) (height : (v : View) → HeightFine d ps a (page_of x.session x.tables v) → Low d ps ln [])
       (hints : (v : View) → hint ≡ cond (asks_hinter a) (w.hints (line_after a (page_of x.session x.tables v)) (pos_after a (page_of x.session x.tables v))) None)
       (pages : (v : View) → hinted d ps replies (edited d ps ln pos (page_of x.session x.tables v)) ≡ page_after d ps (w.screen x.terminal) a replies (is_ok r) (page_of x.session x.tables v))
       (asks : (v : View) (q : Page) → Heeds w z w.heeds_other x.highlighter q.line q.pos s.lit y.highlighter → Asks w z a (page_of x.session x.tables v) q x.highlighter s.lit y.highlighter)
-      (same_writes : Sound w.columns x.session x.tables → (v : View) → let q = hinted d ps replies (edited d ps ln pos (page_of x.session x.tables v)) in redraw d ps x.session.holds replies (page_of x.session x.tables v) q ≡ writes d ps x.session.holds (is_torn x.session.standing) a replies (page_of x.session x.tables v) q) where
+      (same_writes : Sound w.columns x.session x.tables → (v : View) → let q = hinted d ps replies (edited d ps ln pos (page_of x.session x.tables v)) in redraw d ps x.session.holds replies (page_of x.session x.tables v) q ≡ writes d ps x.session.holds (is_torn x.session.standing) a replies (page_of x.session x.tables v) q)
+      (same_buffer : Sound w.columns x.session x.tables → (v : View) → let q = hinted d ps replies (edited d ps ln pos (page_of x.session x.tables v)) in redrawing d ps replies (page_of x.session x.tables v) q ≡ buffer_after d ps a replies (page_of x.session x.tables v) q (buffer_of x.tables))
+      (layout : is_err r ≡ true → LeavesLayout a x.session.layout y.session.layout) where
     met : (t : Sound w.columns x.session x.tables) (v : View) → Admitted d ps (is_torn x.session.standing) ((w.extent x.terminal ≡ x.session.size) × (x.session.begun ≡ x.session.size)) a (page_of x.session x.tables v)
     met t v = admitted d ps (is_torn x.session.standing) ((w.extent x.terminal ≡ x.session.size) × (x.session.begun ≡ x.session.size)) a (page_of x.session x.tables v) (judged.refuses t v)
 
@@ -299,11 +321,11 @@ module _ {T H : Type 0} (w : World T H) (x y : State T H) (ln : List ℕ) (pos :
 
     pub anew-acted : Acted w x a (outcome_of r) y
     anew-acted =
-        went-acted w x y a r redrawn-settings
+        went-acted w x y a r redrawn-settings layout
         (λ t. redrawn-sound t (fine t).0 (fine t).1 (judged.tells t) (height bare_view (met t bare_view).height))
         judged.refuses
         (λ t v.
         let low = height v (met t v).height in (
           view_after t (fine t).0 (fine t).1 (judged.tells t) low (met t v).size.1 (whole t v) v,
-          anew-went t (fine t).0 (fine t).1 (judged.tells t) low (met t v).size.1 (whole t v) v a styled written (hints v) (pages v) (asks v _ (redrawn-heeds t (fine t).0 (fine t).1 (judged.tells t) low (page_of x.session x.tables v))) (same_writes t v),
+          anew-went t (fine t).0 (fine t).1 (judged.tells t) low (met t v).size.1 (whole t v) v a styled written composes (hints v) (pages v) (asks v _ (redrawn-heeds t (fine t).0 (fine t).1 (judged.tells t) low (page_of x.session x.tables v))) (same_writes t v) (same_buffer t v),
         ))

@@ -2,12 +2,15 @@
 use Rattle.std.specs.Prelude.{◌≡◌, ℕ, Bool, List, Ok, Err, Option, Result}
 use Rattle.highlight.specs.declared.highlight.CmdKind.{CmdKind}
 use Rattle.highlight.specs.declared.highlight.CmdKind.TheVariants.{MoveCursor, Other}
-use Rattle.page.specs.Acts.{Act}
-use Rattle.page.specs.Law.{Stepped, World}
+use Rattle.layout.specs.Laying.{LaidAs, corner}
+use Rattle.layout.specs.declared.block.Layout.{Layout}
+use Rattle.page.specs.Acts.{Act, clear, create, finish, go, insert, message, notice, refresh, set}
+use Rattle.page.specs.Law.{World}
 use Rattle.page.specs.Rules.{Outcome}
 use Rattle.page.specs.declared.outcome.BrokenAct.{BrokenAct}
 use Rattle.page.specs.declared.outcome.Rejection.TheVariants.{Broke, Refused}
 use Rattle.screen.specs.Screen.{Screen}
+use Rattle.session.specs.Buffering.{Buffered, buffer_of}
 use Rattle.session.specs.Sessions.{Sound, State, View, moment_of, settings_of}
 use Rattle.session.specs.declared.session.Session.{Session}
 use Rattle.session.specs.declared.tables.Tables.{Tables}
@@ -40,14 +43,27 @@ abbrev pub outcome_of : Result Unit BrokenAct → Outcome
 outcome_of (Ok u) = Ok tt
 outcome_of (Err b) = Err (Broke b)
 
-module _ {T H : Type 0} (w : World T H) where
-  -- whatever stands above the block: the act is a step of a run from the session's page to that of the session after it
-  abbrev pub Steps : State T H → Act → Outcome → State T H → Type 0
-  Steps x a r y = (v : View) → (u : View) × Stepped w (settings_of x.session x.tables) (moment_of x v) a r (moment_of y u)
+-- the layout before a broken act and after it: a notice and a clear forget it before they write
+abbrev pub LeavesLayout : Act → Layout → Layout → Type 0
+LeavesLayout create old new = new ≡ old
+LeavesLayout (insert c n) old new = new ≡ old
+LeavesLayout (set l q) old new = new ≡ old
+LeavesLayout (go q) old new = new ≡ old
+LeavesLayout refresh old new = new ≡ old
+LeavesLayout (message t) old new = new ≡ old
+LeavesLayout (notice t) old new = LaidAs 1 corner corner corner new
+LeavesLayout clear old new = LaidAs 1 corner corner corner new
+LeavesLayout finish old new = new ≡ old
 
-  -- an act: what was settled stays; refused, everything is as it was; and a session that belongs to its tables takes a step of a run and still belongs to them
+module _ {T H : Type 0} (w : World T H) where
+  -- whatever stands above the block: the act is a step of a run from the session's page to that of the session after it, and the draw buffer holds what follows from that step
+  abbrev pub Steps : State T H → Act → Outcome → State T H → Type 0
+  Steps x a r y = (v : View) → (u : View) × Buffered w (settings_of x.session x.tables) (moment_of x v) a r (moment_of y u) (buffer_of x.tables) (buffer_of y.tables)
+
+  -- an act: what was settled stays; refused, everything is as it was; broken, the layout is what the act left of it; and a session that belongs to its tables takes a step of a run and still belongs to them
   pub record Acted (x : State T H) (a : Act) (r : Outcome) (y : State T H) : Type 0 where
     pub settings : settings_of y.session y.tables ≡ settings_of x.session x.tables
     pub refused : (e : Refusal) → r ≡ Err (Refused e) → y ≡ x
+    pub broken : (b : BrokenAct) → r ≡ Err (Broke b) → LeavesLayout a x.session.layout y.session.layout
     pub sound : Sound w.columns x.session x.tables → Sound w.columns y.session y.tables
     pub steps : Sound w.columns x.session x.tables → Steps x a r y

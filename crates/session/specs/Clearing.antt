@@ -8,6 +8,7 @@ use Rattle.page.specs.Output.{framed}
 use Rattle.page.specs.declared.outcome.BrokenAct.{BrokenAct}
 use Rattle.render.specs.Drawing.{Styles, draw_layout, erase_layout, texts_of}
 use Rattle.screen.specs.Output.{clear_bytes, release_bytes}
+use Rattle.session.specs.Buffering.{buffer_of}
 use Rattle.session.specs.Painting.{drawn_to, laid_at}
 use Rattle.session.specs.Preparing.{Prepared}
 use Rattle.session.specs.Sessions.{State, is_torn}
@@ -35,6 +36,7 @@ pub record DrawnCleared {T : Type 0} (answered : T → List ℕ → WriteAnswer 
   pub styles : Styles
   pub styled : StyledTexts lights lights_prompt lights_hint s.colours (texts_of b.prompt b.line b.note) styles
   pub written : Written answered x (cleared_by release s.holds (erase_layout s.layout ++ draw_layout styles l)) r y
+  pub bytes : buffer_of c ≡ erase_layout s.layout ++ draw_layout styles l
   pub session : t ≡ drawn_to l s r
   pub prompt : c.prompt ≡ b.prompt
   pub line : c.line ≡ b.line

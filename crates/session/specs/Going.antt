@@ -15,6 +15,7 @@ use Rattle.screen.specs.Output.{move_bytes}
 use Rattle.screen.specs.Places.{place_of}
 use Rattle.screen.specs.Screen.{block}
 use Rattle.session.specs.Asking.{Asked}
+use Rattle.session.specs.Buffering.{buffer_of}
 use Rattle.session.specs.Painting.{Painted, drawn_to}
 use Rattle.session.specs.Sessions.{State}
 use Rattle.session.specs.declared.session.Session.{Session}
@@ -58,6 +59,7 @@ module _ {T : Type 0} (answered : T → List ℕ → WriteAnswer → T → Type 
   -- the cursor is moved from the layout's place to another: taken, the layout follows; broken, the session is torn
   pub record Shifted (place : Position) (s : Session) (b : Tables) (x : T) (r : Result Unit BrokenAct) (t : Session) (c : Tables) (y : T) : Type 0 where
     pub written : Written answered x (move_bytes s.layout.cursor.row s.layout.cursor.col place.row place.col ∷ []) r y
+    pub bytes : buffer_of c ≡ move_bytes s.layout.cursor.row s.layout.cursor.col place.row place.col
     pub layout : Layout
     pub follows : Follows s.layout place layout
     pub session : t ≡ drawn_to layout s r

@@ -8,6 +8,7 @@ pub mod Styling
 pub mod Painting
 pub mod Refreshing
 pub mod Going
+pub mod Buffering
 pub mod Acting
 pub mod Checking
 pub mod Tabled

@@ -15,9 +15,10 @@ pub record Empty (b : Tables) : Type 0 where
   pub hint : note_of b.hint ≡ None
   pub buffer : composed b.renderer ≡ []
 
--- a prompt, an empty line, no note and no hint
-pub record Begins (p : Prompt) (b : Tables) : Type 0 where
-  pub prompt : b.prompt ≡ p
-  pub line : Holds [] 0 b.line
-  pub note : note_of b.note ≡ None
-  pub hint : note_of b.hint ≡ None
+-- a prompt, an empty line, no note and no hint, the draw buffer as it was
+pub record Begins (p : Prompt) (b c : Tables) : Type 0 where
+  pub prompt : c.prompt ≡ p
+  pub line : Holds [] 0 c.line
+  pub note : note_of c.note ≡ None
+  pub hint : note_of c.hint ≡ None
+  pub renderer : c.renderer ≡ b.renderer

@@ -49,7 +49,7 @@ impl Tables {
 
     // Takes a prompt, and empties line, note and hint.
     pub(crate) fn begin(&mut self, prompt: &Prompt)
-        ensures { Begins prompt.now self.new }
+        ensures { Begins prompt.now self.old self.new }
     {
         self.prompt = *prompt;
         self.line.clear();

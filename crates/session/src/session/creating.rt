@@ -1,5 +1,6 @@
 // A create: a session of a setup, and its empty line drawn.
 ghost use Rattle.session.specs.Acting.{state_of, world_of};
+ghost use Rattle.session.specs.Buffering.{buffer_of};
 ghost use Rattle.session.specs.Creating.{Created, Fresh, Starts};
 
 use crate::session::Session;
@@ -24,7 +25,7 @@ impl Session {
         highlighter: &mut H,
         hinter: &N,
     ) -> (Session, Result<(), Rejection>)
-        ensures { Created (world_of T.Terminal.screen T.Terminal.extent T.Terminal.answered T.Widths.WidthTable.columns H.Highlighter.lights H.Highlighter.lights_prompt H.Highlighter.lights_hint H.Highlighter.heeds (N.Hinter.hints hinter.now)) setup.now terminal.old highlighter.old result.1 (state_of terminal.new highlighter.new result.0 tables.new) }
+        ensures { Created (world_of T.Terminal.screen T.Terminal.extent T.Terminal.answered T.Widths.WidthTable.columns H.Highlighter.lights H.Highlighter.lights_prompt H.Highlighter.lights_hint H.Highlighter.heeds (N.Hinter.hints hinter.now)) setup.now terminal.old highlighter.old (buffer_of tables.old) result.1 (state_of terminal.new highlighter.new result.0 tables.new) }
     {
         tables.begin(&setup.prompt);
         let mut session = Session::fresh(setup, terminal);

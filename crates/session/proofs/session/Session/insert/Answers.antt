@@ -34,7 +34,7 @@ returns-then-writes_directly g c =
     c.args.text.now c.args.count c.in_ok-ends.ends c.in_ok-ends.ensures c.insert.new.self c.in_ok-insert.ensures.1 c.prepare-layout.result c.prepare-layout.new.self c.prepare-layout.new.tables c.type_text.result c.prepare-layout.ensures
     (record { session = c.type_text.ensures.session; prompt = refl; line = refl; note = refl; hint = refl }) (record { prompt = []; line = []; note = [] })
     c.columns_of.result c.columns_of.ensures c.stays_in_row-in_row.result c.writes_directly.result c.stays_in_row-in_row.ensures c.writes_directly.ensures
-    c.if-writes_directly.true c.type_text.ensures.written c.outcome_of.result c.outcome_of.ensures
+    c.if-writes_directly.true c.type_text.ensures.written refl c.outcome_of.result c.outcome_of.ensures
 
 pub returns-else-writes_directly : goal.returns-else-writes_directly
 returns-else-writes_directly g c =
@@ -44,4 +44,4 @@ returns-else-writes_directly g c =
     c.args.text.now c.args.count c.in_ok-ends.ends c.in_ok-ends.ensures c.insert.new.self c.in_ok-insert.ensures.1 c.prepare-layout.result c.prepare-layout.new.self c.prepare-layout.new.tables c.paint.result c.prepare-layout.ensures
     (painted-left c.paint.ensures) c.paint.ensures.drew.styles
     c.columns_of.result c.columns_of.ensures c.stays_in_row-in_row.result c.writes_directly.result c.stays_in_row-in_row.ensures c.writes_directly.ensures
-    c.if-writes_directly.false c.paint.ensures.drew.written c.paint.ensures.drew.styled c.outcome_of-else-writes_directly.result c.outcome_of-else-writes_directly.ensures
+    c.if-writes_directly.false c.paint.ensures.drew.written c.paint.ensures.drew.bytes c.paint.ensures.drew.styled c.outcome_of-else-writes_directly.result c.outcome_of-else-writes_directly.ensures

@@ -7,4 +7,4 @@ pub returns-in_err-move_cursor : goal.returns-in_err-move_cursor
 returns-in_err-move_cursor g c =
     let p = err_from_is_err_and c.from_residual.result c.from_residual.ensures.1 in
     rw (p.1, p.2) (move-broke g.T.Terminal.answered c.args.self.now.layout c.cursor-cursor.result c.end-end.result c.args.tables.now _ c.args.terminal.now c.move_cursor.new.terminal _
-    c.cursor-cursor.ensures c.end-end.ensures c.else-cursor-end.either c.in_err-move_cursor.ensures.written (record { prompt = refl; line = refl; note = refl; hint = refl }))
+    c.cursor-cursor.ensures c.end-end.ensures c.else-cursor-end.either c.in_err-move_cursor.ensures.written (record { prompt = refl; line = refl; note = refl; hint = refl }) c.in_err-move_cursor.ensures.bytes)
