@@ -12,7 +12,7 @@ use Rattle.running.proofs.Meanings.{raw-shown, styled-shown}
 use Rattle.session.specs.Acting.{Acted, state_of}
 use Rattle.session.specs.Creating.{Created, settled_by}
 use Rattle.running.specs.Deeds.{deed, deeds}
-use Rattle.running.specs.Observing.{Observed}
+use Rattle.running.specs.Observing.{Leaves, Observed}
 use Rattle.running.specs.Running.{Kept, Performed}
 use Rattle.session.specs.Finishing.{Ended}
 use Rattle.session.specs.Sessions.{Sound, State, View, is_torn, moment_of, page_of, prompt_of, settings_of}
@@ -83,37 +83,38 @@ module _ {T H O : Type 0} (told : O → T → Act → Outcome → Bool → O →
     start : Lasting told w z t h o [] true (moment_of x made.steps.0) q
     start = lasting-none told w z t h o r (moment_of x made.steps.0) q made.steps.1.step now
 
-    observed : (done left : List Act) (alive : Bool) (m : Moment T H) (p : O) → deeds acts ≡ done ++ left → (alive ≡ true → left ≡ []) → Lasting told w z t h o done alive m p → Observed told w z t h (deeds acts) alive m.terminal m.highlighter o p
+    observed : (done left : List Act) (alive : Bool) (m : Moment T H) (p : O) (s : Option Session) (b : Tables) → deeds acts ≡ done ++ left → (alive ≡ true → left ≡ []) → Lasting told w z t h o done alive m p → Leaves told s b m → Observed told w z t h (deeds acts) alive m.terminal m.highlighter o p s b
     unfolding ran
-    observed done left alive m p given whole past = record {
+    observed done left alive m p s b given whole past leaves = record {
       ran = ran w z meant (raw-shown setup.prompt) (styled-shown setup.prompt) t h (deeds acts) done left alive m refl given whole past.history;
       heard = past.heard;
+      leaves = leaves;
     }
 
     -- all acts are done
-    pub ran-all : (y : State T H) (p : O) → Onward x y q p (deeds acts) → Observed told w z t h (deeds acts) true y.terminal y.highlighter o p
+    pub ran-all : (y : State T H) (p : O) → Onward x y q p (deeds acts) → Observed told w z t h (deeds acts) true y.terminal y.highlighter o p (Some y.session) y.tables
     ran-all y p past =
         let end = past.history z t h o made.steps.0 made.settings start in
-        observed (deeds acts) [] true (moment_of y end.0) p (sym (append-nil (deeds acts))) (λ _. refl) end.1
+        observed (deeds acts) [] true (moment_of y end.0) p (Some y.session) y.tables (sym (append-nil (deeds acts))) (λ _. refl) end.1 (end.0, refl)
 
     -- a finish was accepted
-    pub ran-ended : (y : State T H) (p : O) (i : ℕ) (d : declared.Act) (u : T) (k : H) (c : Tables) (after : O) → i < length acts → deed (get_or acts i d) ≡ finish → Ended w y u k c → told p u finish (Ok tt) false after → Onward x y q p (deeds (take i acts)) → Observed told w z t h (deeds acts) false u k o after
+    pub ran-ended : (y : State T H) (p : O) (i : ℕ) (d : declared.Act) (u : T) (k : H) (c : Tables) (after : O) → i < length acts → deed (get_or acts i d) ≡ finish → Ended w y u k c → told p u finish (Ok tt) false after → Onward x y q p (deeds (take i acts)) → Observed told w z t h (deeds acts) false u k o after None c
     ran-ended y p i d u k c after lt is end heard past =
         let before = past.history z t h o made.steps.0 made.settings start in
         observed (deeds (take i acts) ++ (finish ∷ [])) (deeds (drop (suc i) acts)) false
-        (record { terminal = u; highlighter = k; page = closed (geometry w.columns y.session.size) (prompt_of y.tables) (page_of y.session y.tables before.0); torn = false }) after
+        (record { terminal = u; highlighter = k; page = closed (geometry w.columns y.session.size) (prompt_of y.tables) (page_of y.session y.tables before.0); torn = false }) after None c
         (deeds-parts acts (suc i) ∙ ap (λ (l : List Act). l ++ deeds (drop (suc i) acts)) (deeds-more acts i d lt ∙ ap (λ (b : Act). deeds (take i acts) ++ (b ∷ [])) is))
-        (λ e. absurd (clash e)) (ended-history told w z t h o (deeds (take i acts)) y u k c p after (past.settings ∙ made.settings) past.sound end heard before.0 before.1)
+        (λ e. absurd (clash e)) (ended-history told w z t h o (deeds (take i acts)) y u k c p after (past.settings ∙ made.settings) past.sound end heard before.0 before.1) tt
 
     -- an act after which no session lives on
     pub ran-closed : (y : State T H) (p : O) (i : ℕ) (d : declared.Act) → i < length acts → Onward x y q p (deeds (take i acts))
-        → (left : Option Session) (e : Outcome) (u : T) (k : H) (b : Tables) (after : O) → Performed w y (deed (get_or acts i d)) left e u k b → left ≡ None → told p u (deed (get_or acts i d)) e false after → Observed told w z t h (deeds acts) false u k o after
+        → (left : Option Session) (e : Outcome) (u : T) (k : H) (b : Tables) (after : O) → Performed w y (deed (get_or acts i d)) left e u k b → left ≡ None → told p u (deed (get_or acts i d)) e false after → Observed told w z t h (deeds acts) false u k o after None b
     ran-closed y p i d lt past left e u k b after does is heard =
         let end = subst (λ (s : Option Session). Performed w y (deed (get_or acts i d)) s e u k b) is does in
         ran-ended y p i d u k b after lt end.0 end.2 (subst (λ (a : Act). told p u a (Ok tt) false after) end.0 (subst (λ (f : Outcome). told p u (deed (get_or acts i d)) f false after) end.1 heard)) past
 
     -- no act is left
-    pub ran-over : (y : State T H) (p : O) (i : ℕ) → length acts ≤ i → Onward x y q p (deeds (take i acts)) → Observed told w z t h (deeds acts) true y.terminal y.highlighter o p
+    pub ran-over : (y : State T H) (p : O) (i : ℕ) → length acts ≤ i → Onward x y q p (deeds (take i acts)) → Observed told w z t h (deeds acts) true y.terminal y.highlighter o p (Some y.session) y.tables
     ran-over y p i all past = ran-all y p (subst (λ (l : List declared.Act). Onward x y q p (deeds l)) (take_all i acts all) past)
 
     -- a session that lives on belongs to its tables, and has what was settled

@@ -40,7 +40,7 @@ pub fn run<T: Terminal, H: Highlighter, N: Hinter, O: Observer<T>>(
     acts: &[Act<'_>],
     observer: &mut O,
 ) -> Option<Session>
-    ensures ran { Observed O.Observer.told (world_of T.Terminal.screen T.Terminal.extent T.Terminal.answered T.Widths.WidthTable.columns H.Highlighter.lights H.Highlighter.lights_prompt H.Highlighter.lights_hint H.Highlighter.heeds (N.Hinter.hints hinter.now)) (settled_by setup.now (T.Terminal.extent terminal.old)) terminal.old highlighter.old (deeds acts.now) (is_some result) terminal.new highlighter.new observer.old observer.new }
+    ensures ran { Observed O.Observer.told (world_of T.Terminal.screen T.Terminal.extent T.Terminal.answered T.Widths.WidthTable.columns H.Highlighter.lights H.Highlighter.lights_prompt H.Highlighter.lights_hint H.Highlighter.heeds (N.Hinter.hints hinter.now)) (settled_by setup.now (T.Terminal.extent terminal.old)) terminal.old highlighter.old (deeds acts.now) (is_some result) terminal.new highlighter.new observer.old observer.new result tables.new }
     ensures kept { Kept T.Widths.WidthTable.columns (settled_by setup.now (T.Terminal.extent terminal.old)) result tables.new }
 {
     let (first, outcome) = Session::create(setup, tables, terminal, highlighter, hinter);
