@@ -1,6 +1,6 @@
 // Why the program ends with status 1.
 use crate::options::Valued;
-use script::error::ScriptError;
+use player::fault::PlayFault;
 use std::alloc::{AllocError, AllocFailed};
 use std::{fmt, io};
 
@@ -18,10 +18,8 @@ pub(crate) enum Fault {
     Prompt,
     Memory,
     Input(io::Error),
-    // the report of an act cannot be printed
-    Report,
-    // what is wrong in a script of acts
-    Script(ScriptError),
+    // why a script of acts is not played to its end
+    Play(PlayFault),
 }
 
 impl fmt::Display for Fault {
@@ -52,8 +50,7 @@ impl fmt::Display for Fault {
             ),
             Fault::Memory => f.write_str("out of memory"),
             Fault::Input(error) => write!(f, "{error}"),
-            Fault::Report => f.write_str("the report cannot be printed"),
-            Fault::Script(error) => write!(f, "{error}"),
+            Fault::Play(fault) => write!(f, "{fault}"),
         }
     }
 }
@@ -64,9 +61,9 @@ impl From<io::Error> for Fault {
     }
 }
 
-impl From<ScriptError> for Fault {
-    fn from(error: ScriptError) -> Fault {
-        Fault::Script(error)
+impl From<PlayFault> for Fault {
+    fn from(fault: PlayFault) -> Fault {
+        Fault::Play(fault)
     }
 }
 

@@ -1,5 +1,5 @@
 // Bytes as a report spells them.
-use crate::fault::Fault;
+use crate::fault::PlayFault;
 use std::fmt;
 
 // A hexadecimal digit, in upper case.
@@ -39,7 +39,7 @@ impl fmt::Display for Escaped<'_> {
 }
 
 // Prints the bytes of an act that have worked, if there are any.
-pub(crate) fn print_bytes(rt: &HostRuntime, bytes: &[u8]) -> Result<(), Fault> {
+pub(crate) fn print_bytes(rt: &HostRuntime, bytes: &[u8]) -> Result<(), PlayFault> {
     if !bytes.is_empty() {
         let text = Escaped { bytes };
         println!(rt; "bytes \"{text}\"")?;

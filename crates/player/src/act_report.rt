@@ -1,6 +1,6 @@
 // What is printed of each act.
 use crate::byte_report::print_bytes;
-use crate::fault::Fault;
+use crate::fault::PlayFault;
 use crate::screen_report::print_screen;
 use crate::visible::Visible;
 use page::outcome::Rejection;
@@ -34,7 +34,11 @@ fn answer_word(answer: WriteAnswer) -> &'static str {
 }
 
 // Prints an act that a rule refused.
-pub(crate) fn print_refused(rt: &HostRuntime, name: &str, refusal: Refusal) -> Result<(), Fault> {
+pub(crate) fn print_refused(
+    rt: &HostRuntime,
+    name: &str,
+    refusal: Refusal,
+) -> Result<(), PlayFault> {
     println!(rt; "{name}: refused {refusal}")?;
     Ok(())
 }
@@ -44,7 +48,7 @@ fn print_outcome(
     rt: &HostRuntime,
     name: &str,
     outcome: Result<(), Rejection>,
-) -> Result<(), Fault> {
+) -> Result<(), PlayFault> {
     match outcome {
         Ok(()) => println!(rt; "{name}: accepted")?,
         Err(Rejection::Refused(refusal)) => print_refused(rt, name, refusal)?,
@@ -57,7 +61,7 @@ fn print_outcome(
 }
 
 // Lets what was printed so far be seen.
-pub(crate) fn flush(rt: &HostRuntime) -> Result<(), Fault> {
+pub(crate) fn flush(rt: &HostRuntime) -> Result<(), PlayFault> {
     rt.stdout().flush()?;
     Ok(())
 }
@@ -71,7 +75,7 @@ pub(crate) fn print_act<S: Visible>(
     terminal: &S,
     size: Size,
     torn: bool,
-) -> Result<(), Fault> {
+) -> Result<(), PlayFault> {
     print_outcome(rt, name, outcome)?;
     print_bytes(rt, worked)?;
     print_screen(rt, terminal, size, torn)?;

@@ -1,5 +1,5 @@
 // The screen as a report shows it.
-use crate::fault::Fault;
+use crate::fault::PlayFault;
 use crate::visible::Visible;
 use screen::cells::Cell;
 use std::fmt;
@@ -64,7 +64,7 @@ pub(crate) fn print_screen<S: Visible>(
     terminal: &S,
     size: Size,
     torn: bool,
-) -> Result<(), Fault> {
+) -> Result<(), PlayFault> {
     let row = terminal.row();
     let col = terminal.col();
     let top = terminal.top();

@@ -1,6 +1,6 @@
 // A script played on a grid.
 use crate::act_report::{act_name, flush, print_act, print_refused};
-use crate::fault::Fault;
+use crate::fault::PlayFault;
 use crate::screen_report::print_screen;
 use crate::visible::Visible;
 use faults::faulty::Faulty;
@@ -15,7 +15,7 @@ use running::run::{Observer, run};
 use screen::cells::Cell;
 use script::act::{ScriptAct, ScriptLine};
 use script::error::{ScriptError, Wrong};
-use script::reading::Script;
+use script::reading::{Script, read_script};
 use script::settings::{Highlighting, Settings};
 use session::setup::Setup;
 use session::tables::Tables;
@@ -24,7 +24,7 @@ use terminal::pacer::Pacer;
 use terminal::size::Size;
 use terminal::terminal::Terminal;
 use text::refusal::Refusal;
-use widths::tables::WidthTable;
+use widths::tables::{Eastern, Latin, Table, WidthTable};
 
 // Prints each act when it is done.
 #[derive(Drop)]
@@ -81,8 +81,8 @@ impl<S: Visible> Observer<S> for Reporter {
     }
 }
 
-fn wrong(line: usize, wrong: Wrong) -> Fault {
-    Fault::Script(ScriptError { line, wrong })
+fn wrong(line: usize, wrong: Wrong) -> PlayFault {
+    PlayFault::Script(ScriptError { line, wrong })
 }
 
 // The act that a session is asked for; none for create.
@@ -101,7 +101,7 @@ fn act_of(act: &ScriptAct) -> Option<Act<'_>> {
 }
 
 // The acts up to the next create, or up to the end.
-fn acts_of(heap: Global, lines: &[ScriptLine]) -> Result<Vec<Act<'_>>, Fault> {
+fn acts_of(heap: Global, lines: &[ScriptLine]) -> Result<Vec<Act<'_>>, PlayFault> {
     let mut acts = Vec::new(heap);
     for line in lines {
         let Some(act) = act_of(&line.act) else {
@@ -113,7 +113,7 @@ fn acts_of(heap: Global, lines: &[ScriptLine]) -> Result<Vec<Act<'_>>, Fault> {
 }
 
 // Refuses an act that comes when so many lines are done, and the session has ended.
-fn none_left(lines: &[ScriptLine], done: usize) -> Result<(), Fault> {
+fn none_left(lines: &[ScriptLine], done: usize) -> Result<(), PlayFault> {
     match lines.get(done) {
         Some(line) if act_of(&line.act).is_some() => Err(wrong(line.line, Wrong::NoSession)),
         _ => Ok(()),
@@ -129,7 +129,7 @@ fn play_session<S: Terminal + Visible, H: Highlighter>(
     tables: &mut Tables,
     setup: &Setup,
     lines: &[ScriptLine],
-) -> Result<bool, Fault> {
+) -> Result<bool, PlayFault> {
     let acts = acts_of(reporter.rt.alloc(), lines)?;
     reporter.done = 0;
     let session = run(
@@ -142,7 +142,7 @@ fn play_session<S: Terminal + Visible, H: Highlighter>(
         reporter,
     );
     if reporter.stopped {
-        return Err(Fault::Report);
+        return Err(PlayFault::Report);
     }
     if session.is_some() {
         return Ok(true);
@@ -157,7 +157,7 @@ fn print_unchecked<S: Visible>(
     terminal: &S,
     size: Size,
     refusal: Refusal,
-) -> Result<(), Fault> {
+) -> Result<(), PlayFault> {
     print_refused(rt, "create", refusal)?;
     print_screen(rt, terminal, size, false)?;
     flush(rt)
@@ -183,7 +183,7 @@ fn play_checked<S: Terminal + Visible, H: Highlighter + Copy>(
     tables: &mut Tables,
     settings: &Settings,
     lines: &[ScriptLine],
-) -> Result<bool, Fault> {
+) -> Result<bool, PlayFault> {
     let hinter = ScriptHinter::new(settings.captions.as_slice());
     match check_settings::<S>(settings) {
         Ok(setup) => play_session(
@@ -209,7 +209,7 @@ fn play_sessions<S: Terminal + Visible, H: Highlighter + Copy>(
     terminal: &mut S,
     highlighter: H,
     script: &Script,
-) -> Result<(), Fault> {
+) -> Result<(), PlayFault> {
     let lines = script.acts.as_slice();
     let mut tables = Tables::new();
     let mut reporter = Reporter {
@@ -245,7 +245,7 @@ fn play_on<S: Terminal + Visible + Drop>(
     rt: &HostRuntime,
     mut terminal: S,
     script: &Script,
-) -> Result<(), Fault> {
+) -> Result<(), PlayFault> {
     match script.settings.highlighting {
         Highlighting::Plain => play_sessions(rt, &mut terminal, PlainHighlighter, script),
         Highlighting::Brackets => play_sessions(
@@ -258,7 +258,7 @@ fn play_on<S: Terminal + Visible + Drop>(
 }
 
 // The sessions of a script whose size no terminal has: each is refused.
-fn play_nowhere(rt: &HostRuntime, lines: &[ScriptLine]) -> Result<(), Fault> {
+fn play_nowhere(rt: &HostRuntime, lines: &[ScriptLine]) -> Result<(), PlayFault> {
     for line in lines {
         match act_of(&line.act) {
             Some(_) => return Err(wrong(line.line, Wrong::NoSession)),
@@ -274,22 +274,22 @@ fn lowest_of<W: WidthTable + Copy>(
     widths: W,
     settings: &Settings,
     size: Size,
-) -> Result<Faulty<Grid<W>>, Fault> {
+) -> Result<Faulty<Grid<W>>, PlayFault> {
     let rows = settings.paper.max(usize::from(size.rows()));
     let room = rows.saturating_mul(usize::from(size.cols()));
     let cells = vec![in heap; Cell::Blank; room]?;
-    let grid = Grid::new(widths, cells, size).map_err(|_| Fault::Memory)?;
+    let grid = Grid::new(widths, cells, size).map_err(|_| PlayFault::Memory)?;
     let faults = Vec::from_slice(heap, settings.faults.as_slice())?;
     Ok(Faulty::new(grid, faults, Vec::new(heap)))
 }
 
 // Plays a script, up to its end or to the first line that is wrong.
 // More than three pacers do what three do, and three what one does: each passes on at most 32 bytes.
-pub(crate) fn play<W: WidthTable + Copy>(
+fn play<W: WidthTable + Copy>(
     rt: &HostRuntime,
     widths: W,
     script: &Script,
-) -> Result<(), Fault> {
+) -> Result<(), PlayFault> {
     let settings = &script.settings;
     let Ok(size) = Size::new(settings.cols, settings.rows) else {
         return play_nowhere(rt, script.acts.as_slice());
@@ -300,5 +300,18 @@ pub(crate) fn play<W: WidthTable + Copy>(
         1 => play_on(rt, Pacer::new(lowest), script),
         2 => play_on(rt, Pacer::new(Pacer::new(lowest)), script),
         _ => play_on(rt, Pacer::new(Pacer::new(Pacer::new(lowest))), script),
+    }
+}
+
+// Plays a script of acts and prints its report, and then says what is wrong in it, if anything is.
+pub fn play_script(rt: &HostRuntime, bytes: &[u8]) -> Result<(), PlayFault> {
+    let mut script = read_script(rt.alloc(), bytes).map_err(|_| PlayFault::Memory)?;
+    match script.settings.table {
+        Table::Latin => play(rt, Latin, &script)?,
+        Table::Eastern => play(rt, Eastern, &script)?,
+    }
+    match script.error.take() {
+        Some(error) => Err(PlayFault::Script(error)),
+        None => Ok(()),
     }
 }
