@@ -79,7 +79,7 @@ fn places(out: &mut String) -> usize {
     let mut put = |case: String, out: &mut String| {
         let words = split(case.as_bytes());
         let (crates, ours) = (place(&words, false), place(&words, true));
-        *out += &format!("{case}\n{}\n", if crates == ours { format!("#crate {crates}") } else { format!("# the crate: {crates}\n#rules {ours}") });
+        *out += &if crates == ours { format!("{case}\n#crate {crates}\n") } else { format!("# the crate: {crates}\n{case}\n#rules {ours}\n") };
         n += 1;
     };
     for text in ["", "abc", "abcd", "abcde", "abcde\\n", "\\n", "\\n\\n", "\\t", "a\\tb", "abcde\\t", "\\t\\x07", "\\e[1;34mab\\e[0m", "\\e[?25l", "\\e\\na", "\\e[1\\n2ma", "\\e\\e[1m", "\\ecx", "\\xCC\\x81a", "ab\\xCC\\x81", "a\\xE2\\x80\\x8Db", "\\xC2\\x85a", "\\xE4\\xB8\\xAD", "ab\\xE4\\xB8\\xAD", "abcd\\xE4\\xB8\\xAD", "\\xEF\\xBC\\x81\\xED\\x95\\x9C\\xE3\\x82\\xAB", "\\xF0\\x9F\\x98\\x80"] {
