@@ -67,6 +67,7 @@ worked-drops = record {
   after-cut = refl;
   after-erasing = refl;
   after-hold = refl;
+  counts-itself = refl;
   two-overlong = refl;
   three-overlong = refl;
   four-overlong = refl;
