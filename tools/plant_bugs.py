@@ -1,7 +1,7 @@
 #!/usr/bin/env python3
 """Tries planted slips, and writes what came of them to docs/PLANTED.md.
 
-    tools/plant_bugs.py [--scratch FOLDER] [--only WORD] NAME..   tries planted/NAME/*.edit and writes the table
+    tools/plant_bugs.py [--together [--rounds N]] [--scratch FOLDER] [--only WORD] NAME..   tries planted/NAME/*.edit and writes the table
     tools/plant_bugs.py --table                                   writes the table anew of what is known
     tools/plant_bugs.py --list                                    says which edits cannot be applied
 
@@ -11,6 +11,9 @@ An edit has the lines of a must-fail edit (file:, old:, new:), and before them
 
 It is planted in a copy of the repository: planted/NAME stands there in the place of crates/NAME/must-fail, and `rt must-fail NAME` says
 what came of it. An edit that is still proved is then tried in the crates above, one after the other, with the copy's file changed.
+
+With --together the slips in code that are in functions of their own are planted together, and one `rt check` says what came of each: the
+proof of a function takes nothing from the body of another, so each verdict is the same as alone, and much sooner had.
 
 Verdicts: `fact` a goal failed that the changed code or definition has to meet; `written proof` a proof written for the text as it was no
 longer fits (weaker: another proof could do); `name` only a name or a type is wrong (shows nothing: replace the edit); `survived`.
@@ -65,6 +68,19 @@ def applied(folder, pairs):
         if texts[file].count(old) != 1:
             return None
         texts[file] = texts[file].replace(old, new)
+    return texts
+
+
+def applied_together(folder, pairs):
+    """The new texts of the files, each pair applied to the text as it was."""
+    texts = {}
+    for file in {file for file, _, _ in pairs}:
+        with open(f"{folder}/{file}", encoding="utf-8") as it:
+            text = it.read()
+        places = sorted(((text.index(old), old, new) for where, old, new in pairs if where == file), reverse=True)
+        for at, old, new in places:
+            text = text[:at] + new + text[at + len(old) :]
+        texts[file] = text
     return texts
 
 
@@ -125,6 +141,82 @@ def try_own(scratch, name, edits):
             results[at[1]] = said(line)
     if len(results) < len(edits):
         print(ran.stdout[-2000:])
+    return results
+
+
+def function_at(text, at):
+    """The function in which a place of a text lies, as its number among the text's functions, and its name."""
+    found = list(re.finditer(r"^ *(?:pub(?:\([a-z]+\))? )?fn (\w+)", text[:at], re.M))
+    return (len(found), found[-1][1]) if found else (0, "")
+
+
+def homes_of(folder, pairs):
+    """The functions that an edit changes, with their files."""
+    homes = set()
+    for file, old, _ in pairs:
+        with open(f"{folder}/{file}", encoding="utf-8") as it:
+            text = it.read()
+        homes.add((file, *function_at(text, text.index(old))))
+    return homes
+
+
+def blames(line, homes, texts, name):
+    """Whether an error is one of these functions: it stands in one, or in the proof written for it."""
+    at = re.match(r"(?:note: )?(?:\./)?(\S+?):(\d+):", line)
+    if not at:
+        return False
+    if at[1].startswith("proofs/"):
+        return any(function in at[1].split("/") for _, _, function in homes)
+    file = at[1].removeprefix(f"crates/{name}/")
+    if file not in texts:
+        return False
+    place = sum(len(it) + 1 for it in texts[file].split("\n")[: int(at[2])])
+    return (file, *function_at(texts[file], place)) in homes
+
+
+def try_together(scratch, name, edits, rounds):
+    """What comes of slips in code, those in functions of their own planted together: no function is proved by the body of another."""
+    folder, left, results, alone = f"{scratch}/crates/{name}", list(edits), {}, False
+    while left and rounds:
+        rounds -= 1
+        taken, homes, texts = [], set(), {}
+        for edit in left:
+            _, _, pairs = read_edit(f"{ROOT}/planted/{name}/{edit}")
+            own = homes_of(folder, pairs)
+            if not own & homes and (not taken or not alone and all(number for _, number, _ in own | homes)):
+                taken.append((edit, own, pairs))
+                homes |= own
+        everything = [pair for _, _, pairs in taken for pair in pairs]
+        were = {file: open(f"{folder}/{file}", encoding="utf-8").read() for file, _, _ in everything}
+        texts = applied_together(folder, everything)
+        for file, text in texts.items():
+            with open(f"{folder}/{file}", "w", encoding="utf-8") as it:
+                it.write(text)
+        ran = subprocess.run(["rt", "check"], cwd=folder, stdout=subprocess.PIPE, stderr=subprocess.STDOUT, text=True)
+        for file, text in were.items():
+            with open(f"{folder}/{file}", "w", encoding="utf-8") as it:
+                it.write(text)
+        with open(f"{scratch}/{name}.log", "a", encoding="utf-8") as it:
+            it.write(ran.stdout)
+        lines = [it for it in ran.stdout.split("\n") if re.match(r"(note: )?\S+:\d+:\d+:", it) and (": error" in it or it.startswith("note: "))]
+        states = re.findall(r"^fn (\S+): (.*)", ran.stdout, re.M)
+        for edit, own, _ in taken:
+            blamed = [it for it in lines if blames(it, own, texts, name)]
+            state = [said for path, said in states if path.split("::")[-1] in {function for _, _, function in own}]
+            waits = any("it calls" in said or "waits for" in said for said in state)
+            if blamed:
+                first = next((it for it in blamed if not re.match(r"(note: )?(\./)?proofs/", it)), blamed[0])
+                results[edit] = class_of(first), first[:200]
+            elif not states and (len(taken) == 1 or not lines):
+                results[edit] = "not tried", (lines or [ran.stdout[-160:]])[0][:200]
+            elif states and len(taken) == 1 and lines:
+                results[edit] = class_of(lines[0]), lines[0][:200]
+            elif states and not waits:
+                results[edit] = ("survived", "") if all(said.startswith("proved") for said in state) else ("fact", state[0][:200])
+        rest = [it for it in left if it not in results]
+        if len(rest) == len(left) and alone:
+            results[rest.pop(0)] = "not tried", (lines or [ran.stdout[-160:]])[0][:200]
+        left, alone = rest, len(rest) == len(left)
     return results
 
 
@@ -210,19 +302,26 @@ def main(words):
         return 0
     results = known()
     if words != ["--table"]:
-        scratch, only = "/tmp/planted", ""
-        while words and words[0] in ("--scratch", "--only"):
-            if words[0] == "--scratch":
-                scratch = words[1]
+        scratch, only, together, rounds = "/tmp/planted", "", False, -1
+        while words and words[0].startswith("--"):
+            if words[0] == "--together":
+                together, words = True, words[1:]
+            elif words[0] == "--rounds":
+                rounds, words = int(words[1]), words[2:]
+            elif words[0] == "--scratch":
+                scratch, words = words[1], words[2:]
             else:
-                only = words[1]
-            words = words[2:]
+                only, words = words[1], words[2:]
         copy_to(scratch)
         for name in words:
             edits = [it for it in edits_of(name) if re.search(only, it)]
-            for edit, (verdict, fact) in try_own(scratch, name, edits).items():
+            code = [it for it in edits if not it.startswith("spec_")] if together else []
+            tried = try_together(scratch, name, code, rounds) if code else {}
+            others = [it for it in edits if it not in code]
+            tried |= try_own(scratch, name, others) if others else {}
+            for edit, (verdict, fact) in tried.items():
                 _, above, pairs = read_edit(f"{ROOT}/planted/{name}/{edit}")
-                if verdict == "survived" and above:
+                if verdict == "survived" and above and os.environ.get("ABOVE") != "no":
                     verdict, fact = try_above(scratch, name, edit, above, pairs)
                 now = known()
                 now[name, edit] = verdict, fact
