@@ -3,6 +3,8 @@
 #![allow(dead_code, unused, unfulfilled_lint_expectations, mismatched_lifetime_syntaxes)]
 pub mod config;
 mod bracket_probe;
+#[path = "../own/compare.rs"]
+mod compare;
 #[path = "../own/driver.rs"]
 mod driver;
 mod edit;
@@ -18,6 +20,10 @@ mod prompt;
 mod report;
 #[path = "../own/rules.rs"]
 mod rules;
+#[path = "../own/sample.rs"]
+mod sample;
+#[path = "../own/scripts.rs"]
+mod scripts;
 mod tty;
 mod undo;
 

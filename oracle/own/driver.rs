@@ -32,11 +32,13 @@ pub struct Settings {
     pub pacers: usize,
     pub paper: usize,
     pub faults: Vec<(usize, Answer)>,
+    /// a form of the prompt is not UTF-8: our check refuses it, the crate cannot be given it
+    pub bad_prompt: bool,
 }
 impl Default for Settings {
     fn default() -> Self {
         Settings { cols: 80, rows: 24, eastern: false, raw: "> ".into(), styled: "> ".into(), colours: false, holds: false,
-            brackets: false, captions: vec![], pacers: 0, paper: 10000, faults: vec![] }
+            brackets: false, captions: vec![], pacers: 0, paper: 10000, faults: vec![], bad_prompt: false }
     }
 }
 #[derive(Clone, Debug)]
@@ -90,6 +92,8 @@ pub struct Lay {
     pub holds: usize,
     pub line: String,
     pub pos: usize,
+    /// what the highlighter answers for the line
+    pub drawn: Vec<u8>,
 }
 
 /// the helper the crate is given: plain or bracket highlighter, and the script as hinter
@@ -200,7 +204,7 @@ fn session(set: &Settings, acts: &[Act], raw_hints: bool, gate: bool, reports: &
         reports.push(Report { name: act.name(), outcome, writes, taken, worked, max_interrupts: mi, lay: Some(Lay {
             prompt: xy(s.layout.prompt_size), cursor: xy(s.layout.cursor), end: xy(s.layout.end), info: s.layout.has_info,
             hint: s.hint.as_ref().map(|h| h.display().to_string()), lit: s.highlight_char, holds: hold_count(s.out),
-            line: s.line.as_str().to_string(), pos: s.line.pos() }) });
+            line: s.line.as_str().to_string(), pos: s.line.pos(), drawn: catch_unwind(AssertUnwindSafe(|| aid.highlight(s.line.as_str(), s.line.pos()).into_owned().into_bytes())).unwrap_or_default() }) });
     }
 }
 
@@ -218,7 +222,7 @@ pub fn escape(b: &[u8]) -> String {
     s
 }
 /// one quoted string from the front; gives the bytes and the rest
-fn quoted(b: &[u8]) -> Result<(Vec<u8>, &[u8]), String> {
+pub fn quoted(b: &[u8]) -> Result<(Vec<u8>, &[u8]), String> {
     let mut i = 0;
     while i < b.len() && b[i] == b' ' { i += 1; }
     if i >= b.len() || b[i] != b'"' { return Err("quoted string expected".into()); }
@@ -264,13 +268,18 @@ pub fn directive(set: &mut Settings, line: &[u8]) -> Result<Option<Act>, String>
         "table" => set.eastern = match w.first() { Some(&"latin") => false, Some(&"eastern") => true, _ => return Err("latin|eastern".into()) },
         "prompt" => {
             let (a, r) = quoted(rest)?;
-            set.raw = text(a)?;
-            set.styled = if r.trim_ascii().is_empty() { set.raw.clone() } else { text(quoted(r)?.0)? };
+            let b = if r.trim_ascii().is_empty() { a.clone() } else { quoted(r)?.0 };
+            set.bad_prompt = text(a.clone()).is_err() || text(b.clone()).is_err();
+            (set.raw, set.styled) = if set.bad_prompt { Default::default() } else { (text(a)?, text(b)?) };
         }
         "colours" => set.colours = on(w.first())?,
         "holds" => set.holds = on(w.first())?,
         "highlighter" => set.brackets = match w.first() { Some(&"plain") => false, Some(&"brackets") => true, _ => return Err("plain|brackets".into()) },
-        "caption" => set.captions.push(text(quoted(rest)?.0)?),
+        "caption" => {
+            let c = quoted(rest)?.0;
+            // of one that is not UTF-8, those of its lines that are; the others are never offered
+            match text(c.clone()) { Ok(t) => set.captions.push(t), Err(_) => set.captions.extend(c.split(|&b| b == b'\n').filter_map(|l| text(l.to_vec()).ok())) }
+        }
         "pace" => set.pacers = num(w.first().copied())?,
         "paper" => set.paper = num(w.first().copied())?,
         "fault" => {
@@ -345,14 +354,14 @@ fn run_ours(set: &Settings, acts: &[Act]) -> Result<Vec<(Report, Screen)>, Strin
         for w in &writes { screen.bytes(w); }
         if no.is_none() { m.page(&screen)?; }
         let xy = |p: (u32, u32)| (p.0 as Unit, p.1 as Unit);
-        let lay = Lay { prompt: xy(m.lay.prompt), cursor: xy(m.lay.cursor), end: xy(m.lay.end), info: m.lay.info, hint: m.hint.clone(), lit: m.lit, holds: 0, line: m.line.clone(), pos: m.pos };
+        let lay = Lay { prompt: xy(m.lay.prompt), cursor: xy(m.lay.cursor), end: xy(m.lay.end), info: m.lay.info, hint: m.hint.clone(), lit: m.lit, holds: 0, line: m.line.clone(), pos: m.pos, drawn: m.styled_line() };
         let outcome = no.map_or(Outcome::Accepted, Outcome::Refused);
         out.push((Report { name: act.name(), outcome, taken: vec![], worked: writes.concat(), writes, max_interrupts: 0, lay: Some(lay) }, screen.clone()));
     }
     Ok(out)
 }
 /// one measurement, `COLS TAB TABLE COL ROW TEXT`: the crate's answer, or ours
-fn place(a: &[String], ours: bool) -> String {
+pub fn place(a: &[String], ours: bool) -> String {
     let n = |i: usize| a[i].parse::<u16>().expect("number");
     table(&a[2]);
     let t = arg_text(&a[5]);
@@ -369,7 +378,7 @@ fn place(a: &[String], ours: bool) -> String {
     }
 }
 /// one bracket look, `LINE POS`: check_bracket, highlight_char and highlight of the crate
-fn bracket(a: &[String]) -> String {
+pub fn bracket(a: &[String]) -> String {
     let l = arg_text(&a[0]);
     let pos: usize = a[1].parse().expect("number");
     let m = MatchingBracketHighlighter::new();
@@ -378,7 +387,7 @@ fn bracket(a: &[String]) -> String {
     format!("bracket {found} char {} line {}", if yes { "yes" } else { "no" }, escape(m.highlight(&l, pos).as_bytes()))
 }
 /// words and quoted strings of one line
-fn split(l: &[u8]) -> Vec<String> {
+pub fn split(l: &[u8]) -> Vec<String> {
     let mut v = Vec::new();
     let mut l = l.trim_ascii();
     while !l.is_empty() {
@@ -441,6 +450,8 @@ pub fn main() {
             format!("{}joining {j} unfinished {}", s.show(), if s.unfinished() { "yes" } else { "no" })
         }),
         Some("fuzz") => crate::fuzz::main(&rest),
-        _ => { eprintln!("oracle report < script | acts [--ours] [--gate] [--layout] [--screen] [--raw-hints] < script | place [--ours] [COLS TAB TABLE COL ROW TEXT] | bracket [LINE POS] | screen [COLS ROWS TABLE BYTES] | fuzz KIND N SEED"); std::process::exit(1) }
+        Some("compare") => crate::compare::main(&rest),
+        Some("sample") => crate::sample::main(rest.first().map_or(1, |s| s.parse().expect("a number"))),
+        _ => { eprintln!("oracle report < script | acts [--ours] [--gate] [--layout] [--screen] [--raw-hints] < script | place [--ours] [COLS TAB TABLE COL ROW TEXT] | bracket [LINE POS] | screen [COLS ROWS TABLE BYTES] | fuzz KIND N SEED | compare PROGRAM ACTS SEED [JOBS [DENIED]] | compare --script SEED NUMBER | sample SEED"); std::process::exit(1) }
     }
 }

@@ -7,10 +7,10 @@ use crate::layout::Position;
 use crate::rules::{self, CRATE, Flags, Model, OURS, Screen};
 use crate::tty::{Renderer as _, make};
 
-pub struct Rng(u64);
+pub struct Rng(pub u64);
 impl Rng {
-    fn n(&mut self, k: usize) -> usize { self.0 ^= self.0 << 13; self.0 ^= self.0 >> 7; self.0 ^= self.0 << 17; ((self.0 >> 11) as usize) % k }
-    fn pick<'a, T>(&mut self, v: &'a [T]) -> &'a T { &v[self.n(v.len())] }
+    pub fn n(&mut self, k: usize) -> usize { self.0 ^= self.0 << 13; self.0 ^= self.0 >> 7; self.0 ^= self.0 << 17; ((self.0 >> 11) as usize) % k }
+    pub fn pick<'a, T>(&mut self, v: &'a [T]) -> &'a T { &v[self.n(v.len())] }
 }
 pub fn main(a: &[String]) {
     let n: usize = a.get(1).and_then(|s| s.parse().ok()).unwrap_or(10000);

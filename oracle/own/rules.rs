@@ -190,11 +190,12 @@ pub fn drawn(cols: u16, t: &str) -> Vec<Vec<Cell>> {
 
 // ---- the session: bytes and page. Flags all true = our rules; all false = the crate's habits.
 #[derive(Clone, Copy, Debug)]
-pub struct Flags { pub whole: bool, pub lf_exact: bool, pub notice_anew: bool }
+pub struct Flags { pub whole: bool, pub lf_exact: bool, pub notice_anew: bool, /** a hint higher than the window counts as none */ pub low_hints: bool }
 type P = (u32, u32);
 #[derive(Clone, Debug, PartialEq)]
 pub struct L { pub prompt: P, pub cursor: P, pub end: P, pub full: bool, pub info: bool }
 use crate::driver::{Act, Settings};
+#[derive(Clone)]
 pub struct Model {
     pub set: Settings, pub fl: Flags, pub line: String, pub pos: usize, pub hint: Option<String>, pub note: Option<String>,
     pub lay: L, pub lit: bool, bracket: Option<(u8, usize)>, holds: usize,
@@ -220,7 +221,7 @@ impl Model {
         let p = visible(&self.set.raw);
         if self.fl.whole { place(self.set.cols, &(p + &self.line[..self.pos])) } else { self.from(self.from((0, 0), &p), &self.line[..self.pos]) }
     }
-    fn compute(&self, note: Option<&str>) -> L {
+    pub fn compute(&self, note: Option<&str>) -> L {
         let p = visible(&self.set.raw);
         let cols = self.set.cols;
         let prompt = place(cols, &p);
@@ -236,7 +237,7 @@ impl Model {
     }
     pub fn tall(&self, line: &str, note: &str) -> bool { place(self.set.cols, &(visible(&self.set.raw) + line + note)).1 >= u32::from(self.set.rows) }
     fn ask(&mut self) {
-        self.hint = script(&self.set.captions, &self.line, self.pos).filter(|h| !self.tall(&self.line, h));
+        self.hint = script(&self.set.captions, &self.line, self.pos).filter(|h| !self.fl.low_hints || !self.tall(&self.line, h));
     }
     fn kind(b: u8) -> Option<(u8, bool)> { // partner, opens
         Some(match b { b'(' => (b')', true), b'[' => (b']', true), b'{' => (b'}', true), b')' => (b'(', false), b']' => (b'[', false), b'}' => (b'{', false), _ => return None })
@@ -258,7 +259,7 @@ impl Model {
             if line[i] == partner { d -= 1; if d == 0 { return Some(i); } } else if line[i] == b { d += 1; }
         }
     }
-    fn styled_line(&self) -> Vec<u8> {
+    pub fn styled_line(&self) -> Vec<u8> {
         let l = self.line.as_bytes();
         if self.set.brackets && l.len() > 1 && let Some((b, p)) = self.bracket && let Some(i) = Self::search(l, p, b) {
             return [&l[..i], b"\x1b[1;34m", &l[i..i + 1], b"\x1b[0m", &l[i + 1..]].concat();
@@ -400,8 +401,8 @@ impl Model {
         Ok(())
     }
 }
-pub const CRATE: Flags = Flags { whole: false, lf_exact: false, notice_anew: false };
-pub const OURS: Flags = Flags { whole: true, lf_exact: true, notice_anew: true };
+pub const CRATE: Flags = Flags { whole: false, lf_exact: false, notice_anew: false, low_hints: true };
+pub const OURS: Flags = Flags { whole: true, lf_exact: true, notice_anew: true, low_hints: true };
 
 /// the check before create: size, prompt
 pub fn checked(s: &Settings) -> Option<u8> {
@@ -416,5 +417,5 @@ pub fn checked(s: &Settings) -> Option<u8> {
         }
         true
     };
-    if !(2..=500).contains(&s.cols) || !(1..=200).contains(&s.rows) { Some(1) } else if !fine(&s.raw) || !fine(&s.styled) || visible(&s.raw) != visible(&s.styled) { Some(2) } else { None }
+    if !(2..=500).contains(&s.cols) || !(1..=200).contains(&s.rows) { Some(1) } else if s.bad_prompt || !fine(&s.raw) || !fine(&s.styled) || visible(&s.raw) != visible(&s.styled) { Some(2) } else { None }
 }

@@ -1,5 +1,6 @@
 // Why the program ends with status 1.
 use crate::options::Valued;
+use player::fault::PlayFault;
 use std::alloc::{AllocError, AllocFailed};
 use std::{fmt, io};
 
@@ -8,6 +9,7 @@ pub(crate) enum Fault {
     // no command, or one that is unknown
     Command,
     UnknownOption(String),
+    UnknownRunOption(String),
     MissingValue(Valued),
     // an option's value, which is no number from 0 to 65,535
     Number(Valued, String),
@@ -16,15 +18,23 @@ pub(crate) enum Fault {
     Prompt,
     Memory,
     Input(io::Error),
+    // why a script of acts is not played to its end
+    Play(PlayFault),
 }
 
 impl fmt::Display for Fault {
     fn fmt<W: fmt::Write>(&self, f: &mut fmt::Formatter<W>) -> fmt::Result {
         match self {
-            Fault::Command => f.write_str("the command is `preview`; `caption --help` tells more"),
+            Fault::Command => {
+                f.write_str("the command is `preview` or `run`; `caption --help` tells more")
+            }
             Fault::UnknownOption(name) => write!(
                 f,
-                "unknown option `{name}`; `caption --help` lists them"
+                "unknown option `{name}`; `caption preview --help` lists them"
+            ),
+            Fault::UnknownRunOption(name) => write!(
+                f,
+                "unknown option `{name}`; `caption run` takes none but `--help`"
             ),
             Fault::MissingValue(option) => write!(f, "`{option}` needs a value"),
             Fault::Number(option, value) => {
@@ -40,6 +50,7 @@ impl fmt::Display for Fault {
             ),
             Fault::Memory => f.write_str("out of memory"),
             Fault::Input(error) => write!(f, "{error}"),
+            Fault::Play(fault) => write!(f, "{fault}"),
         }
     }
 }
@@ -47,6 +58,12 @@ impl fmt::Display for Fault {
 impl From<io::Error> for Fault {
     fn from(error: io::Error) -> Fault {
         Fault::Input(error)
+    }
+}
+
+impl From<PlayFault> for Fault {
+    fn from(fault: PlayFault) -> Fault {
+        Fault::Play(fault)
     }
 }
 

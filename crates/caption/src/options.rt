@@ -20,8 +20,11 @@ pub(crate) struct Options {
 #[derive(Drop)]
 pub(crate) enum Command {
     Help,
+    PreviewHelp,
+    RunHelp,
     // a window and the other options
     Preview(Size, Options),
+    Run,
 }
 
 // The options that have a value.
@@ -116,7 +119,7 @@ fn read_options(heap: Global, args: env::Args) -> Result<Command, Fault> {
         waiting = Valued::named(arg.as_str());
         if waiting.is_none() {
             match arg.as_str() {
-                "--help" => return Ok(Command::Help),
+                "--help" => return Ok(Command::PreviewHelp),
                 "--brackets" => options.brackets = true,
                 _ => return Err(Fault::UnknownOption(arg)),
             }
@@ -128,6 +131,17 @@ fn read_options(heap: Global, args: env::Args) -> Result<Command, Fault> {
     Ok(Command::Preview(options.window()?, options))
 }
 
+// What the options behind `run` ask for.
+fn read_run_options(mut args: env::Args) -> Result<Command, Fault> {
+    let Some(option) = args.next() else {
+        return Ok(Command::Run);
+    };
+    match option.as_str() {
+        "--help" => Ok(Command::RunHelp),
+        _ => Err(Fault::UnknownRunOption(option)),
+    }
+}
+
 // The command that the arguments say.
 pub(crate) fn read_command(rt: &HostRuntime) -> Result<Command, Fault> {
     let mut args = env::args(rt)?;
@@ -136,6 +150,7 @@ pub(crate) fn read_command(rt: &HostRuntime) -> Result<Command, Fault> {
     match command.as_str() {
         "--help" => Ok(Command::Help),
         "preview" => read_options(rt.alloc(), args),
+        "run" => read_run_options(args),
         _ => Err(Fault::Command),
     }
 }

@@ -47,10 +47,10 @@ module _ (w : ℕ → ℕ) (narrow : (c : ℕ) → w c ≤ 2) (z : Size) where
   abbrev At : List ℕ → Position → Type 0
   At cs p = p ≡ walk_place z.cols w cs top_left
 
-  place_is : (p : Position) (cs : List ℕ) → AllGood cs → At cs p → at_end z.cols p ≡ place_of Window (block Window cs)
+  pub place_is : (p : Position) (cs : List ℕ) → AllGood cs → At cs p → at_end z.cols p ≡ place_of Window (block Window cs)
   place_is p cs good e = ap (at_end z.cols) e ∙ block-place Window fits cs good
 
-  fills : (p : Position) (cs : List ℕ) → AllGood cs → At cs p → eqb p.col z.cols ≡ full Window (block Window cs)
+  pub fills : (p : Position) (cs : List ℕ) → AllGood cs → At cs p → eqb p.col z.cols ≡ full Window (block Window cs)
   fills p cs good e =
       ap (λ (x : Position). eqb x.col z.cols) (e ∙ draw-spot Window fits cs blank_pen good (omega arith))
       ∙ full_is Window (block Window cs) (draw-col Window fits cs blank_pen good (omega arith))

@@ -1,3 +1,4 @@
 pub mod Reaching
+pub mod Walking
 pub mod Lining
 pub mod Fitting

@@ -1,16 +1,14 @@
 // Places of a line's parts behind a prompt.
-ghost use Rattle.std.specs.Prelude.{◌≡◌, None};
+ghost use Rattle.std.specs.Prelude.{◌≡◌, ◌<◌, None};
+ghost use Rattle.layout.specs.Drawing.{step_place};
 ghost use Rattle.measuring.specs.Measured.{Computes, Inserts, Measures, Repeats, Walks};
 ghost use Rattle.std.specs.Option.{option_map};
 
 use layout::block::Layout;
 use layout::layout::Position;
-use layout::measure::{Rows, Walk};
+use std::str::from_utf8;
 use terminal::size::Size;
 use widths::tables::WidthTable;
-
-// good texts hold no tab, so any stop does
-const TAB_STOP: u16 = 8;
 
 // Where a line ends behind its prompt, up to the edit position and as a whole; a full row does not count as the next.
 #[derive(Clone, Copy)]
@@ -19,17 +17,46 @@ pub struct LineEnds {
     pub end: Position,
 }
 
+// Where a character ends that is drawn from a place.
+fn step_place<W: WidthTable>(place: Position, c: char, cols: u16) -> Position
+    requires { place.row < 65535 }
+    ensures { result ≡ step_place cols W.WidthTable.columns c place }
+{
+    if c == '\n' {
+        return Position {
+            col: 0,
+            row: place.row + 1,
+        };
+    }
+    let width = u16::from(W::width(c));
+    if u32::from(place.col) + u32::from(width) > u32::from(cols) {
+        return Position {
+            col: width,
+            row: place.row + 1,
+        };
+    }
+    Position {
+        col: place.col + width,
+        ..place
+    }
+}
+
 // Where a text ends that is drawn from a place. A struct for place and columns is no plainer: each call has another place.
 // Nor is a `Window` for these functions: its size would ask more of a caller than columns do.
 pub fn walk_text<W: WidthTable>(from: Position, text: &[u8], cols: u16) -> Option<Position>
     ensures { Walks W.WidthTable.columns cols from text.now result }
 {
-    let rows = Rows {
-        cols,
-        tab_stop: TAB_STOP,
+    if text.len() > usize::from(u16::MAX - from.row) {
+        return None;
+    }
+    let Ok(text) = from_utf8(text) else {
+        return None;
     };
-    let walk = Walk::start(from).advance::<W>(text, rows)?;
-    Some(walk.position)
+    let mut place = from;
+    for c in text.chars() {
+        place = step_place::<W>(place, c, cols);
+    }
+    Some(place)
 }
 
 // Where a text ends that is drawn so many times.

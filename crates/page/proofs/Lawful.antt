@@ -11,7 +11,7 @@ use Rattle.page.proofs.Showing.{Showing, cursor-end, feed_all, showing-shows, sh
 use Rattle.page.proofs.Spelt.{one-good, spells-decodes, styled-decodes}
 use Rattle.page.proofs.Stepping.{anew, shows-clear, shows_first, shows-go, shows-insert, shows-notice}
 use Rattle.page.specs.Acts.{Act, Replies, clear, closed, create, edited, ends_line, finish, go, gone, insert, message, noted, notice, page_after, refresh, set, settled, stays}
-use Rattle.page.specs.Law.{Coloured, Moment, NoteLit, Settings, Shown, Stepped, Uncoloured, Went, World, draws, geometry_of, note_bytes}
+use Rattle.page.specs.Law.{Coloured, Moment, NoteLit, Settings, Shown, SizeFine, Stepped, Uncoloured, Went, World, draws, geometry_of, note_bytes}
 use Rattle.page.specs.Meaning.{Meant}
 use Rattle.page.specs.Output.{close_notice, direct, draw_page, erase_page, first_page, let_go, move_page, redraw, styled_block, to_end, writes}
 use Rattle.page.specs.Page.{Page, Shows, block_text, cursor_col, cursor_row, end_col, end_row, front_text, note_text}
@@ -29,6 +29,7 @@ use Rattle.screen.specs.Output.{clear_bytes, erase_bytes, move_bytes, release_by
 use Rattle.screen.specs.Screen.{Geometry, Screen, block}
 use Rattle.std.proofs.lemmas.Bool.{and_from, and_right, eqb-false}
 use Rattle.std.specs.Str.{chars}
+use Rattle.terminal.specs.Limits.{proper}
 use Rattle.terminal.specs.Windows.{Inside, Ready, geometry}
 use Rattle.text.proofs.Styling.{styled-append, styled-good}
 use Rattle.text.specs.Characters.{AllGood}
@@ -253,7 +254,7 @@ module _ {T H : Type 0} (w : World T H) (z : Settings) (meant : Meant w) (raw_sh
   err-ok (Err b) e = absurd (clash (sym e))
 
   -- every act but create and an accepted finish
-  went-sane : (m n : Moment T H) (a : Act) (r : Result Unit BrokenAct) → Sane m → (a ≡ create → ⊥) → (a ≡ finish → is_ok r ≡ false) → Admitted d prompt m.torn (w.extent m.terminal ≡ z.size) a m.page → Went w z m a r n → Sane n
+  went-sane : (m n : Moment T H) (a : Act) (r : Result Unit BrokenAct) → Sane m → (a ≡ create → ⊥) → (a ≡ finish → is_ok r ≡ false) → Admitted d prompt m.torn (SizeFine w z m) a m.page → Went w z m a r n → Sane n
   went-sane m n a r s nc nf ad g =
       let x = through m n a r g s.size in
       let l : Lived-page d prompt n.page = subst (Lived-page d prompt) (sym g.page) (after-proper d prompt (w.screen m.terminal) a g.replies (is_ok r) m.page nc nf g.hint_fine ad.text ad.place ad.height s.page) in
@@ -275,15 +276,15 @@ module _ {T H : Type 0} (w : World T H) (z : Settings) (meant : Meant w) (raw_sh
   Ends-run a o = (a ≡ finish) × (o ≡ Ok tt)
 
   pub step-sane : (m n : Moment T H) (a : Act) (o : Outcome) → Sane m → (a ≡ create → ⊥) → (Ends-run a o → ⊥) → Stepped w z m a o n → Sane n
-  step-sane m n a (Ok u) s nc ne st = went-sane m n a (Ok tt) s nc (λ f. absurd (ne (f, refl))) (admitted d prompt m.torn (w.extent m.terminal ≡ z.size) a m.page st.0) st.1
+  step-sane m n a (Ok u) s nc ne st = went-sane m n a (Ok tt) s nc (λ f. absurd (ne (f, refl))) (admitted d prompt m.torn (SizeFine w z m) a m.page st.0) st.1
   step-sane m n a (Err (Refused e)) s nc ne st = refused-sane m n s st.1
-  step-sane m n a (Err (Broke b)) s nc ne st = went-sane m n a (Err b) s nc (λ f. refl) (admitted d prompt m.torn (w.extent m.terminal ≡ z.size) a m.page st.0) st.1
+  step-sane m n a (Err (Broke b)) s nc ne st = went-sane m n a (Err b) s nc (λ f. refl) (admitted d prompt m.torn (SizeFine w z m) a m.page st.0) st.1
 
   -- an accepted finish: the page stands, closed, and the terminal is ready
   pub finish-shown : (m n : Moment T H) → Sane m → Stepped w z m finish (Ok tt) n → Shown w z n × Ready (w.screen n.terminal)
   finish-shown m n s st =
       let g = st.1 in
-      let ad = admitted d prompt m.torn (w.extent m.terminal ≡ z.size) finish m.page st.0 in
+      let ad = admitted d prompt m.torn (SizeFine w z m) finish m.page st.0 in
       let x = through m n finish (Ok tt) g s.size in
       let f = fit d prompt good m.page s.page.proper in
       let here = shows-showing d prompt m.page (w.screen m.terminal) (s.shown (untorn-is m.torn finish refl ad.untorn)) in
@@ -342,6 +343,6 @@ module _ {T H : Type 0} (w : World T H) (z : Settings) (meant : Meant w) (raw_sh
           (rests-append (erase_bytes 0 0) (draw_page d prompt r q) (rests-erase 0 0 (omega arith)) (rests-draw d (styled_block r) (block_text prompt q) (front_text prompt q) s (omega arith) (omega arith)), tt)
 
   pub create-sane : (m n : Moment T H) (o : Outcome) → w.extent m.terminal ≡ z.size → Ready (w.screen m.terminal) → ((e : Refusal) → o ≡ Err (Refused e) → ⊥) → Stepped w z m create o n → Sane n
-  create-sane m n (Ok u) e rd nr st = created-sane m n (Ok tt) e rd (admitted d prompt m.torn (w.extent m.terminal ≡ z.size) create m.page st.0).height st.1
+  create-sane m n (Ok u) e rd nr st = created-sane m n (Ok tt) e rd (admitted d prompt m.torn (SizeFine w z m) create m.page st.0).height st.1
   create-sane m n (Err (Refused x)) e rd nr st = absurd (nr x refl)
-  create-sane m n (Err (Broke b)) e rd nr st = created-sane m n (Err b) e rd (admitted d prompt m.torn (w.extent m.terminal ≡ z.size) create m.page st.0).height st.1
+  create-sane m n (Err (Broke b)) e rd nr st = created-sane m n (Err b) e rd (admitted d prompt m.torn (SizeFine w z m) create m.page st.0).height st.1

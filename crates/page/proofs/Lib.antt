@@ -13,3 +13,4 @@ pub mod Quieting
 pub mod Lawful
 pub mod Chaining
 pub mod Computing
+pub mod Running

@@ -54,6 +54,18 @@ pos_after (notice t) p = p.pos
 pos_after clear p = p.pos
 pos_after finish p = p.pos
 
+-- the hinter is asked where the line is drawn with a hint
+abbrev pub asks_hinter : Act → Bool
+asks_hinter create = true
+asks_hinter (insert c n) = true
+asks_hinter (set l q) = true
+asks_hinter (go q) = false
+asks_hinter refresh = true
+asks_hinter (message t) = false
+asks_hinter (notice t) = false
+asks_hinter clear = true
+asks_hinter finish = false
+
 -- whether a text ends with LF
 abbrev pub ends_line : List ℕ → Bool
 ends_line t = slice_index t (length t - 1) == 10

@@ -1,9 +1,9 @@
 -- The law over runs of acts. Assumes nothing.
 use Rattle.std.specs.Prelude.{◌≡◌, ℕ, suc, Bool, true, false, cond, not, ◌&&◌, ◌||◌, List, [], ◌∷◌, is_ok, is_err, Some, None, Ok, Err, Option, Result}
-use Rattle.page.specs.Acts.{Act, Replies, clear, create, finish, go, insert, line_after, message, notice, page_after, pos_after, refresh, set, stays}
+use Rattle.page.specs.Acts.{Act, Replies, asks_hinter, clear, create, finish, go, insert, line_after, message, notice, page_after, pos_after, refresh, set, stays}
 use Rattle.page.specs.Output.{direct, writes}
 use Rattle.page.specs.Page.{Page, Shows}
-use Rattle.page.specs.Rules.{Outcome, Refuses}
+use Rattle.page.specs.Rules.{Outcome, Refuses, mends}
 use Rattle.page.specs.declared.outcome.BrokenAct.{BrokenAct}
 use Rattle.page.specs.declared.outcome.Rejection.TheVariants.{Broke, Refused}
 use Rattle.screen.specs.Screen.{Geometry, Screen}
@@ -14,6 +14,7 @@ use Rattle.terminal.specs.Answers.{WriteAnswer}
 use Rattle.terminal.specs.declared.writing.BrokenWrite.{BrokenWrite}
 use Rattle.text.specs.Texts.{GoodText}
 use Rattle.text.specs.declared.refusal.Refusal.{Refusal}
+use Rattle.text.specs.declared.refusal.Refusal.TheVariants.{Torn}
 
 -- how a list of writes ends: all are taken, or one breaks, with its number from 0
 module _ {T : Type 0} (answered : T → List ℕ → WriteAnswer → T → Type 0) where
@@ -25,7 +26,9 @@ module _ {T : Type 0} (answered : T → List ℕ → WriteAnswer → T → Type 
 
 -- what is settled before create; `prompt` is the characters that both forms of the prompt show
 pub record Settings : Type 0 where
+  -- the size checked, and that of the terminal at create
   pub size : Size
+  pub begun : Size
   pub raw : List ℕ
   pub styled : List ℕ
   pub prompt : List ℕ
@@ -44,6 +47,12 @@ pub record Entry (T H : Type 0) : Type 0 where
   pub act : Act
   pub outcome : Outcome
   pub after : Moment T H
+
+-- a broken write tears a session, an accepted act leaves it untorn, a refused one leaves it as it was
+abbrev pub torn_after : Bool → Outcome → Bool
+torn_after torn (Ok u) = false
+torn_after torn (Err (Refused e)) = torn
+torn_after torn (Err (Broke b)) = true
 
 -- a terminal, a highlighter and a hinter by their meanings
 pub record World (T H : Type 0) : Type 1 where
@@ -118,7 +127,7 @@ module _ {T H : Type 0} (w : World T H) (z : Settings) where
   -- an act that no rule refuses: what was answered, the page that follows, and the writes, up to a broken one
   pub record Went (m : Moment T H) (a : Act) (r : Result Unit BrokenAct) (n : Moment T H) : Type 0 where
     pub replies : Replies
-    pub hint : replies.hint ≡ w.hints (line_after a m.page) (pos_after a m.page)
+    pub hint : replies.hint ≡ cond (asks_hinter a) (w.hints (line_after a m.page) (pos_after a m.page)) None
     pub hint_fine : (t : List ℕ) → replies.hint ≡ Some t → GoodText t
     pub page : n.page ≡ page_after geometry_of z.prompt (w.screen m.terminal) a replies (is_ok r) m.page
     pub asks : Asks a m.page n.page m.highlighter replies.yes n.highlighter
@@ -126,9 +135,13 @@ module _ {T H : Type 0} (w : World T H) (z : Settings) where
     pub written : Written w.answered m.terminal (writes geometry_of z.prompt z.holds m.torn a replies m.page n.page) r n.terminal
     pub torn : n.torn ≡ is_err r
 
+  -- the act's terminal and that of its session's create are of the checked size
+  abbrev pub SizeFine : Moment T H → Type 0
+  SizeFine m = (w.extent m.terminal ≡ z.size) × (z.begun ≡ z.size)
+
   -- the refusal of an act, or none
   abbrev pub Refusing : Moment T H → Act → Option Refusal → Type 0
-  Refusing m a = Refuses geometry_of z.prompt m.torn (w.extent m.terminal ≡ z.size) a m.page
+  Refusing m a = Refuses geometry_of z.prompt m.torn (SizeFine m) a m.page
 
   -- a step of a run: refused by a rule, with nothing altered; or accepted; or broken by the terminal
   abbrev pub Stepped : Moment T H → Act → Outcome → Moment T H → Type 0
@@ -140,7 +153,18 @@ module _ {T H : Type 0} (w : World T H) (z : Settings) where
   abbrev pub Shown : Moment T H → Type 0
   Shown m = m.torn ≡ false → Shows geometry_of z.prompt m.page (w.screen m.terminal)
 
-  -- after every act of a history
+  -- torn exactly from a broken write to the next accepted clear: until then every other act is refused for it
+  pub record Tears (m : Moment T H) (a : Act) (o : Outcome) (n : Moment T H) : Type 0 where
+    pub after : n.torn ≡ torn_after m.torn o
+    pub others : m.torn ≡ true → mends a ≡ false → o ≡ Err (Refused Torn)
+
+  -- an act of a run by the law: a step that leaves the page on the screen, or the session torn
+  pub record Lawful (m : Moment T H) (e : Entry T H) : Type 0 where
+    pub step : Stepped m e.act e.outcome e.after
+    pub shown : Shown e.after
+    pub tears : Tears m e.act e.outcome e.after
+
+  -- every act of a history
   abbrev pub Lived : Moment T H → List (Entry T H) → Type 0
   Lived m [] = Unit {0}
-  Lived m (e ∷ es) = Stepped m e.act e.outcome e.after × Shown e.after × Lived e.after es
+  Lived m (e ∷ es) = Lawful m e × Lived e.after es

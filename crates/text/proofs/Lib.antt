@@ -1,6 +1,7 @@
 pub mod Decodes
 mod LineEnds
 pub mod Spelling
+mod Simple
 pub mod Styling
 pub mod Testing
 mod Runs

@@ -1,5 +1,6 @@
 pub mod Characters
 pub mod Texts
+pub mod Simple
 pub mod Decoding
 pub mod Pieces
 pub mod Checks

@@ -1,17 +1,41 @@
 // Good texts: UTF-8 with no control but LF.
-ghost use Rattle.std.specs.Prelude.{◌≤◌, length, take, IsUtf8, Decides};
+ghost use Rattle.std.specs.Prelude.{◌≡◌, ◌≤◌, true, length, take, IsUtf8, Decides};
 ghost use Rattle.std.specs.Str.{IsCharBoundary};
 ghost use Rattle.text.specs.Checks.{ChecksText, ChecksWithin};
 ghost use Rattle.text.specs.Pieces.{GoodFront};
+ghost use Rattle.text.specs.Simple.{Simple};
+ghost use Rattle.text.specs.Texts.{GoodText};
 
 use crate::decode::{Decoded, first_char, is_continuation, is_good};
 use crate::refusal::Refusal;
 use std::str::from_utf8;
 
+// Whether a byte is an ASCII character that a text may hold.
+fn is_simple(byte: u8) -> bool
+    ensures { result ≡ true → Simple byte }
+{
+    byte == b'\n' || (0x20 <= byte && byte < 0x7f)
+}
+
+// Whether all bytes are such characters, which takes no decoding to say.
+fn all_simple(bytes: &[u8]) -> bool
+    ensures { result ≡ true → GoodText bytes.now }
+{
+    for byte in bytes {
+        if !is_simple(*byte) {
+            return false;
+        }
+    }
+    true
+}
+
 // Accepts a good text, and refuses any other.
 pub fn check_text(bytes: &[u8]) -> Result<(), Refusal>
     ensures { ChecksText bytes.now result }
 {
+    if all_simple(bytes) {
+        return Ok(());
+    }
     match from_utf8(bytes) {
         Ok(text) if text.chars().all(is_good) => Ok(()),
         _ => Err(Refusal::Text),

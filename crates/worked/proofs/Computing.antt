@@ -8,7 +8,7 @@ use Rattle.std.specs.Fmt.{digits}
 use Rattle.std.specs.Str.{chars}
 use Rattle.worked.specs.Brackets.{WorkedBrackets}
 use Rattle.worked.specs.Places.{WorkedPlaces}
-use Rattle.worked.specs.Rows.{WorkedHalves, WorkedMarks, WorkedWrap}
+use Rattle.worked.specs.Rows.{WorkedDrops, WorkedHalves, WorkedMarks, WorkedWrap}
 use Rattle.worked.specs.Worked.{WorkedFacts}
 use Rattle.worked.specs.Writes.{WorkedWrites}
 
@@ -58,5 +58,24 @@ worked-marks : WorkedMarks
 unfolding encode step_in begin finish act move put_pen on_row placed split mark_at
 worked-marks = record { on-wide = refl; replaced = refl; full-row = refl; after-style = refl; after-move = refl; after-torn = refl }
 
+worked-drops : WorkedDrops
+unfolding encode step_in begin finish act move put_pen on_row placed split wipe_from mark_at
+worked-drops = record {
+  after-control = refl;
+  after-no_lead = refl;
+  after-escapes = refl;
+  after-cut = refl;
+  after-erasing = refl;
+  after-hold = refl;
+  counts-itself = refl;
+  two-overlong = refl;
+  three-overlong = refl;
+  four-overlong = refl;
+  surrogate = refl;
+  past-last = refl;
+  behind-escape = refl;
+  right-edge = refl;
+}
+
 pub worked-proof : WorkedFacts
-worked-proof = record { places = worked-places; writes = worked-writes; brackets = worked-brackets; halves = worked-halves; wrap = worked-wrap; marks = worked-marks }
+worked-proof = record { places = worked-places; writes = worked-writes; brackets = worked-brackets; halves = worked-halves; wrap = worked-wrap; marks = worked-marks; drops = worked-drops }

@@ -64,3 +64,20 @@ pub record WorkedMarks : Type 0 where
   pub after-style : row_after 0 (97 ∷ 27 ∷ codes "[1m" ++ acute_bytes) ≡ accented 97 ∷ Blank ∷ Blank ∷ Blank ∷ Blank ∷ []
   pub after-move : row_after 0 (97 ∷ 27 ∷ codes "[A" ++ acute_bytes) ≡ alone 97 ∷ Blank ∷ Blank ∷ Blank ∷ Blank ∷ []
   pub after-torn : row_after 0 (97 ∷ 204 ∷ 27 ∷ codes "[m" ++ acute_bytes) ≡ alone 97 ∷ Blank ∷ Blank ∷ Blank ∷ Blank ∷ []
+
+-- a control, dropped bytes, erasing and mode 2026 end the joining; bytes that are no UTF-8 draw nothing, but one that ends a character too soon counts for itself; a byte behind ESC draws nothing; a move stops at the last column
+pub record WorkedDrops : Type 0 where
+  pub after-control : row_after 0 (97 ∷ 7 ∷ acute_bytes) ≡ alone 97 ∷ Blank ∷ Blank ∷ Blank ∷ Blank ∷ []
+  pub after-no_lead : row_after 0 (97 ∷ 255 ∷ acute_bytes) ≡ alone 97 ∷ Blank ∷ Blank ∷ Blank ∷ Blank ∷ []
+  pub after-escapes : row_after 0 (97 ∷ 27 ∷ 27 ∷ codes "[m" ++ acute_bytes) ≡ alone 97 ∷ Blank ∷ Blank ∷ Blank ∷ Blank ∷ []
+  pub after-cut : row_after 0 (97 ∷ 27 ∷ codes "[" ++ (27 ∷ codes "[m" ++ acute_bytes)) ≡ alone 97 ∷ Blank ∷ Blank ∷ Blank ∷ Blank ∷ []
+  pub after-erasing : row_after 0 (97 ∷ 27 ∷ codes "[K" ++ acute_bytes) ≡ alone 97 ∷ Blank ∷ Blank ∷ Blank ∷ Blank ∷ []
+  pub after-hold : row_after 0 (97 ∷ 27 ∷ codes "[?2026h" ++ acute_bytes) ≡ alone 97 ∷ Blank ∷ Blank ∷ Blank ∷ Blank ∷ []
+  pub counts-itself : row_after 0 (195 ∷ codes "a") ≡ alone 97 ∷ Blank ∷ Blank ∷ Blank ∷ Blank ∷ []
+  pub two-overlong : row_after 0 (193 ∷ 161 ∷ codes "b") ≡ alone 98 ∷ Blank ∷ Blank ∷ Blank ∷ Blank ∷ []
+  pub three-overlong : row_after 0 (224 ∷ 129 ∷ 129 ∷ codes "b") ≡ alone 98 ∷ Blank ∷ Blank ∷ Blank ∷ Blank ∷ []
+  pub four-overlong : row_after 0 (240 ∷ 129 ∷ 129 ∷ 129 ∷ codes "b") ≡ alone 98 ∷ Blank ∷ Blank ∷ Blank ∷ Blank ∷ []
+  pub surrogate : row_after 0 (237 ∷ 160 ∷ 128 ∷ codes "b") ≡ alone 98 ∷ Blank ∷ Blank ∷ Blank ∷ Blank ∷ []
+  pub past-last : row_after 0 (244 ∷ 144 ∷ 128 ∷ 128 ∷ codes "b") ≡ alone 98 ∷ Blank ∷ Blank ∷ Blank ∷ Blank ∷ []
+  pub behind-escape : row_after 0 (27 ∷ codes "7b") ≡ alone 98 ∷ Blank ∷ Blank ∷ Blank ∷ Blank ∷ []
+  pub right-edge : spot_of (after (27 ∷ codes "[9C")).pen ≡ place 4 0

@@ -2,7 +2,7 @@
 use Rattle.page.specs.Page.{Page}
 use Rattle.worked.specs.Brackets.{WorkedBrackets}
 use Rattle.worked.specs.Places.{WorkedPlaces}
-use Rattle.worked.specs.Rows.{WorkedHalves, WorkedMarks, WorkedWrap}
+use Rattle.worked.specs.Rows.{WorkedDrops, WorkedHalves, WorkedMarks, WorkedWrap}
 use Rattle.worked.specs.Writes.{WorkedWrites}
 
 -- every example holds
@@ -13,3 +13,4 @@ pub record WorkedFacts : Type 0 where
   pub halves : WorkedHalves
   pub wrap : WorkedWrap
   pub marks : WorkedMarks
+  pub drops : WorkedDrops

@@ -39,11 +39,14 @@ impl Note {
         Ok(())
     }
 
-    // Takes what another note holds.
+    // Takes what another note holds; where that is nothing, no memory is copied.
     pub fn copy_from(&mut self, other: &Note)
         ensures { note_of self.new ≡ note_of other.now }
     {
-        self.text = other.text;
+        match &other.text {
+            Some(held) => self.text = Some(*held),
+            None => self.text = None,
+        }
     }
 
     // Takes a hinter's answer for a line and a position, a hint or none.
@@ -52,6 +55,9 @@ impl Note {
     {
         let mut memory = [0; MAX_NOTE];
         let len = hinter.hint(line, pos, &mut memory);
-        self.text = len.map(|len| Buffer::filled(memory, len));
+        match len {
+            Some(len) => self.text = Some(Buffer::filled(memory, len)),
+            None => self.clear(),
+        }
     }
 }

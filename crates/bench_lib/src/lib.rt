@@ -1,0 +1,5 @@
+//! A session for a driver in another language, which counts what acts cost.
+#![tactic(auto)]
+
+pub mod deed;
+pub mod play;
