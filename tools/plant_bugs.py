@@ -274,12 +274,15 @@ def write_table(results):
     """The rows below the table's mark, of each edit that was tried."""
     with open(TABLE, encoding="utf-8") as it:
         head = it.read().partition("<!-- rows -->")[0]
-    rows, counts = [], {}
+    rows, counts, untried = [], {}, {}
     for name in order():
         for edit in edits_of(name):
             slip, _, pairs = read_edit(f"{ROOT}/planted/{name}/{edit}")
             verdict, fact = results.get((name, edit), ("not tried", ""))
             counts[verdict] = counts.get(verdict, 0) + 1
+            if verdict == "not tried":
+                untried.setdefault(name, []).append(edit[:-5])
+                continue
             of_specs = all(file.startswith("specs/") for file, _, _ in pairs)
             fact = fact.replace("|", "\\|")
             place = pairs[0][0]
@@ -288,8 +291,9 @@ def write_table(results):
     line = "| edit | slip | file | verdict | the first fact that failed |\n|---|---|---|---|---|\n"
     code = "\n".join(row for of_specs, row in rows if not of_specs)
     specs = "\n".join(row for of_specs, row in rows if of_specs)
+    waiting = "\n".join(f"- `{name}`: {', '.join(edits)}" for name, edits in untried.items())
     with open(TABLE, "w", encoding="utf-8") as it:
-        it.write(f"{head}<!-- rows -->\n\nIn all: {told}.\n\n## Slips in code\n\n{line}{code}\n\n## Slips in definitions\n\n{line}{specs}\n")
+        it.write(f"{head}<!-- rows -->\n\nIn all: {told}.\n\n## Slips in code\n\n{line}{code}\n\n## Slips in definitions\n\n{line}{specs}\n\n## Not tried yet\n\n{waiting}\n")
 
 
 def main(words):
