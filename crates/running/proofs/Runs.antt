@@ -1,6 +1,9 @@
 -- A run from its create on: what each turn keeps, and what the end has.
 use Rattle.std.proofs.Common.{◌≡◌, ℕ, Bool, zero, suc, ◌+◌, ◌<◌, ◌≤◌, true, false, List, [], ◌∷◌, ◌++◌, Some, None, Ok, Option, length, get_or, take, drop, sym, refl, ap, ◌∙◌, subst, append-nil, add-one, arith}
 use borrow.Author.Tests.{clash}
+use Rattle.lines.specs.Lines.{line_of}
+use Rattle.lines.specs.Notes.{note_of}
+use Rattle.lines.specs.declared.line_buffer.LineBuffer.{LineBuffer}
 use Rattle.page.proofs.Running.{ran}
 use Rattle.page.specs.Acts.{Act, closed, create, finish}
 use Rattle.page.specs.Law.{Moment, Settings, World}
@@ -14,7 +17,7 @@ use Rattle.session.specs.Creating.{Created, settled_by}
 use Rattle.running.specs.Deeds.{deed, deeds}
 use Rattle.running.specs.Observing.{Leaves, Observed}
 use Rattle.running.specs.Running.{Kept, Performed}
-use Rattle.session.specs.Finishing.{Ended}
+use Rattle.session.specs.Finishing.{Ended, SameTexts}
 use Rattle.session.specs.Sessions.{Sound, State, View, is_torn, moment_of, page_of, prompt_of, settings_of}
 use Rattle.running.specs.declared.act.Act as declared
 use Rattle.running.specs.declared.act.Act.TheVariants as act
@@ -98,20 +101,21 @@ module _ {T H O : Type 0} (told : O → T → Act → Outcome → Bool → O →
         observed (deeds acts) [] true (moment_of y end.0) p (Some y.session) y.tables (sym (append-nil (deeds acts))) (λ _. refl) end.1 (end.0, refl)
 
     -- a finish was accepted
-    pub ran-ended : (y : State T H) (p : O) (i : ℕ) (d : declared.Act) (u : T) (k : H) (c : Tables) (after : O) → i < length acts → deed (get_or acts i d) ≡ finish → Ended w y u k c → told p u finish (Ok tt) false after → Onward x y q p (deeds (take i acts)) → Observed told w z t h (deeds acts) false u k o after None c
-    ran-ended y p i d u k c after lt is end heard past =
+    pub ran-ended : (y : State T H) (p : O) (i : ℕ) (d : declared.Act) (u : T) (k : H) (c : Tables) (after : O) → i < length acts → deed (get_or acts i d) ≡ finish → Ended w y u k c → SameTexts y.tables c → told p u finish (Ok tt) false after → Onward x y q p (deeds (take i acts)) → Observed told w z t h (deeds acts) false u k o after None c
+    ran-ended y p i d u k c after lt is end same heard past =
         let before = past.history z t h o made.steps.0 made.settings start in
         observed (deeds (take i acts) ++ (finish ∷ [])) (deeds (drop (suc i) acts)) false
         (record { terminal = u; highlighter = k; page = closed (geometry w.columns y.session.size) (prompt_of y.tables) (page_of y.session y.tables before.0); torn = false }) after None c
         (deeds-parts acts (suc i) ∙ ap (λ (l : List Act). l ++ deeds (drop (suc i) acts)) (deeds-more acts i d lt ∙ ap (λ (b : Act). deeds (take i acts) ++ (b ∷ [])) is))
-        (λ e. absurd (clash e)) (ended-history told w z t h o (deeds (take i acts)) y u k c p after (past.settings ∙ made.settings) past.sound end heard before.0 before.1) tt
+        (λ e. absurd (clash e)) (ended-history told w z t h o (deeds (take i acts)) y u k c p after (past.settings ∙ made.settings) past.sound end heard before.0 before.1)
+        (record { line = ap line_of same.line; pos = ap (λ (l : LineBuffer). l.pos) same.line; note = ap note_of same.note; hint = ap note_of same.hint })
 
     -- an act after which no session lives on
     pub ran-closed : (y : State T H) (p : O) (i : ℕ) (d : declared.Act) → i < length acts → Onward x y q p (deeds (take i acts))
         → (left : Option Session) (e : Outcome) (u : T) (k : H) (b : Tables) (after : O) → Performed w y (deed (get_or acts i d)) left e u k b → left ≡ None → told p u (deed (get_or acts i d)) e false after → Observed told w z t h (deeds acts) false u k o after None b
     ran-closed y p i d lt past left e u k b after does is heard =
         let end = subst (λ (s : Option Session). Performed w y (deed (get_or acts i d)) s e u k b) is does in
-        ran-ended y p i d u k b after lt end.0 end.2 (subst (λ (a : Act). told p u a (Ok tt) false after) end.0 (subst (λ (f : Outcome). told p u (deed (get_or acts i d)) f false after) end.1 heard)) past
+        ran-ended y p i d u k b after lt end.0 end.2 end.3 (subst (λ (a : Act). told p u a (Ok tt) false after) end.0 (subst (λ (f : Outcome). told p u (deed (get_or acts i d)) f false after) end.1 heard)) past
 
     -- no act is left
     pub ran-over : (y : State T H) (p : O) (i : ℕ) → length acts ≤ i → Onward x y q p (deeds (take i acts)) → Observed told w z t h (deeds acts) true y.terminal y.highlighter o p (Some y.session) y.tables

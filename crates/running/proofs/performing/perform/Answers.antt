@@ -27,7 +27,7 @@ returns-in-Notice g c =
     (deed c.args.act.now) (notice c.in-Notice.text.now) c.notice-outcome.result (ap deed c.in-Notice.is) refl (c.notice-outcome.ensures (g.N.Hinter.hints c.args.hinter.now))
 
 pub returns-in-Ok : goal.returns-in-Ok
-returns-in-Ok g c = (ap deed c.in-Finish.is, refl, (c.in-Ok.ensures (g.N.Hinter.hints c.args.hinter.now)).steps)
+returns-in-Ok g c = let end = c.in-Ok.ensures (g.N.Hinter.hints c.args.hinter.now) in (ap deed c.in-Finish.is, refl, end.steps, end.texts)
 
 pub returns-in-Err : goal.returns-in-Err
 returns-in-Err g c =
