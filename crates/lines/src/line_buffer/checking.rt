@@ -58,6 +58,8 @@ fn is_one_character(bytes: &[u8]) -> bool
 }
 
 // Whether bytes are one good character, told by decoding it.
+// Kept out of line, so that the caller saves no registers where a byte tells.
+#[inline(never)]
 fn is_decoded_whole(bytes: &[u8]) -> bool
     ensures { Decides result (OneCharacter bytes.now) }
 {
