@@ -1,5 +1,5 @@
 // What puts bytes into a buffer.
-ghost use Rattle.std.specs.Prelude.{◌≡◌, ◌++◌, [], take, drop};
+ghost use Rattle.std.specs.Prelude.{◌≡◌, ◌∷◌, ◌++◌, [], take, drop};
 ghost use Rattle.std.specs.List.{repeat};
 ghost use Rattle.buffer.specs.Contents.{Becomes, contents};
 
@@ -59,10 +59,25 @@ impl<const N: usize> Buffer<N> {
         Ok(())
     }
 
+    // Puts a byte behind those that are there, unless there is no room for it.
+    fn push(&mut self, byte: u8) -> Result<(), Full>
+        ensures { Becomes (contents self.old ++ byte ∷ []) self.old result self.new }
+    {
+        if self.len == N {
+            return Err(Full);
+        }
+        self.memory[self.len] = byte;
+        self.len += 1;
+        Ok(())
+    }
+
     // Puts a text so many times behind the bytes that are there, unless there is no room.
     pub fn extend_repeated(&mut self, text: &[u8], count: u16) -> Result<(), Full>
         ensures { Becomes (contents self.old ++ repeat count text.now) self.old result self.new }
     {
+        if let ([byte], 1) = (text, count) {
+            return self.push(*byte);
+        }
         let Some(added) = text.len().checked_mul(usize::from(count)) else {
             return Err(Full);
         };
@@ -81,8 +96,10 @@ impl<const N: usize> Buffer<N> {
     {
         let len = self.len;
         self.extend_repeated(text, count)?;
-        let memory = &mut self.memory[..self.len];
-        memory[at.min(len)..].rotate_left(len - at.min(len));
+        if at < len {
+            let memory = &mut self.memory[..self.len];
+            memory[at..].rotate_left(len - at);
+        }
         Ok(())
     }
 }

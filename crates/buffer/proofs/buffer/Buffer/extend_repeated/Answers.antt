@@ -4,10 +4,10 @@ use Rattle.buffer.proofs.Repeats.{filled-below, filled-length, filled-more}
 use Rattle.buffer.specs.Contents.{contents}
 use Rattle.buffer.proofs.buffer.Buffer.extend_repeated.Goals as goal
 
-pub returns-in_default : goal.returns-in_default
-returns-in_default g c =
+pub returns-in_default-checked_mul : goal.returns-in_default-checked_mul
+returns-in_default-checked_mul g c =
     let counted = ap (λ n. length c.args.text.now * n) c.from.ensures in
-    (omega (arith, counted, c.in_default.ensures, filled-length (contents c.args.self.now) c.args.text.now c.args.count, g.N.fits), refl)
+    (omega (arith, counted, c.in_default-checked_mul.ensures, filled-length (contents c.args.self.now) c.args.text.now c.args.count, g.N.fits), refl)
 
 pub returns-then-added-self : goal.returns-then-added-self
 returns-then-added-self g c =
