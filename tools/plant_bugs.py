@@ -27,6 +27,8 @@ import sys
 ROOT = os.path.dirname(os.path.dirname(os.path.abspath(__file__)))
 TABLE = f"{ROOT}/docs/PLANTED.md"
 RESULTS = f"{ROOT}/planted/results.txt"
+# how rt is called: RT="/path/slot rt" has each call wait for its turn
+RT = os.environ.get("RT", "rt").split()
 NAMES = re.compile(r"has no field|is not in scope|has no `|was not admitted|mismatched types|is no name")
 
 
@@ -133,7 +135,7 @@ def try_own(scratch, name, edits):
     os.makedirs(folder)
     for it in edits:
         shutil.copy(f"{ROOT}/planted/{name}/{it}", folder)
-    ran = subprocess.run(["rt", "must-fail", name], cwd=scratch, stdout=subprocess.PIPE, stderr=subprocess.STDOUT, text=True)
+    ran = subprocess.run([*RT, "must-fail", name], cwd=scratch, stdout=subprocess.PIPE, stderr=subprocess.STDOUT, text=True)
     results = {}
     for line in ran.stdout.split("\n"):
         at = re.search(rf"must-fail {name}/([\w-]+\.edit): ", line)
@@ -192,7 +194,7 @@ def try_together(scratch, name, edits, rounds):
         for file, text in texts.items():
             with open(f"{folder}/{file}", "w", encoding="utf-8") as it:
                 it.write(text)
-        ran = subprocess.run(["rt", "check"], cwd=folder, stdout=subprocess.PIPE, stderr=subprocess.STDOUT, text=True)
+        ran = subprocess.run([*RT, "check"], cwd=folder, stdout=subprocess.PIPE, stderr=subprocess.STDOUT, text=True)
         for file, text in were.items():
             with open(f"{folder}/{file}", "w", encoding="utf-8") as it:
                 it.write(text)
@@ -232,7 +234,7 @@ def try_above(scratch, name, edit, above, pairs):
             it.write(text)
     try:
         for crate in above:
-            ran = subprocess.run(["rt", "check"], cwd=f"{scratch}/crates/{crate}", stdout=subprocess.PIPE, stderr=subprocess.STDOUT, text=True)
+            ran = subprocess.run([*RT, "check"], cwd=f"{scratch}/crates/{crate}", stdout=subprocess.PIPE, stderr=subprocess.STDOUT, text=True)
             if ran.returncode:
                 lines = [it for it in ran.stdout.split("\n") if re.match(r"(note: )?\S+:\d+:\d+:", it)]
                 told = [it for it in lines if ": error" in it] or lines
