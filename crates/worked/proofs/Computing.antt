@@ -6,6 +6,8 @@ use Rattle.screen.specs.Bytes.{act, begin, finish, move, step_in}
 use Rattle.screen.specs.Screen.{full, mark_at, on_row, place_col, place_row, placed, put_pen, split, wipe_from}
 use Rattle.std.specs.Fmt.{digits}
 use Rattle.std.specs.Str.{chars}
+use Rattle.worked.proofs.Paging.{worked-pages}
+use Rattle.worked.proofs.Refusing.{worked-rules}
 use Rattle.worked.specs.Brackets.{WorkedBrackets}
 use Rattle.worked.specs.Places.{WorkedPlaces}
 use Rattle.worked.specs.Rows.{WorkedDrops, WorkedHalves, WorkedMarks, WorkedWrap}
@@ -78,4 +80,4 @@ worked-drops = record {
 }
 
 pub worked-proof : WorkedFacts
-worked-proof = record { places = worked-places; writes = worked-writes; brackets = worked-brackets; halves = worked-halves; wrap = worked-wrap; marks = worked-marks; drops = worked-drops }
+worked-proof = record { places = worked-places; writes = worked-writes; pages = worked-pages; rules = worked-rules; brackets = worked-brackets; halves = worked-halves; wrap = worked-wrap; marks = worked-marks; drops = worked-drops }

@@ -1,1 +1,3 @@
+pub mod Paging
+pub mod Refusing
 pub mod Computing

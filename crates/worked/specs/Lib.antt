@@ -2,4 +2,6 @@ pub mod Places
 pub mod Brackets
 pub mod Rows
 pub mod Writes
+pub mod Pages
+pub mod Rules
 pub mod Worked

@@ -1,14 +1,18 @@
 -- The examples together. Assumes nothing.
 use Rattle.page.specs.Page.{Page}
 use Rattle.worked.specs.Brackets.{WorkedBrackets}
+use Rattle.worked.specs.Pages.{WorkedPages}
 use Rattle.worked.specs.Places.{WorkedPlaces}
 use Rattle.worked.specs.Rows.{WorkedDrops, WorkedHalves, WorkedMarks, WorkedWrap}
+use Rattle.worked.specs.Rules.{WorkedRules}
 use Rattle.worked.specs.Writes.{WorkedWrites}
 
 -- every example holds
 pub record WorkedFacts : Type 0 where
   pub places : WorkedPlaces
   pub writes : (p : Page) → WorkedWrites p
+  pub pages : (p : Page) → WorkedPages p
+  pub rules : (p : Page) → WorkedRules p
   pub brackets : WorkedBrackets
   pub halves : WorkedHalves
   pub wrap : WorkedWrap
