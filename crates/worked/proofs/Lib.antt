@@ -1,3 +1,4 @@
 pub mod Paging
 pub mod Refusing
+pub mod Stepping
 pub mod Computing

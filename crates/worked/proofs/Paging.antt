@@ -97,6 +97,7 @@ worked-output p = record {
   finish-there = refl;
   finish-in-row = refl;
   finish-below = refl;
+  refresh-end = refl;
   insert-alone = refl;
 }
 

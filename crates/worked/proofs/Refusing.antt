@@ -1,13 +1,28 @@
 -- The examples about refusals.
-use Rattle.std.proofs.Common.{◌≡◌, ℕ, ◌<◌, ◌≤◌, Bool, true, false, List, [], ◌∷◌, length, IsUtf8, refl, sym, ◌∙◌, inl, inr, arith}
+use Rattle.std.proofs.Common.{◌≡◌, ℕ, ◌<◌, ◌≤◌, Bool, true, false, List, [], ◌∷◌, length, IsUtf8, Some, None, Option, refl, sym, ◌∙◌, inl, inr, arith}
 use lib.Utf8.{encode}
 use borrow.Author.Tests.{clash}
+use Rattle.page.specs.Acts.{message}
 use Rattle.page.specs.Page.{Page}
 use Rattle.screen.specs.Screen.{full, on_row, place_col, place_row, placed, put_pen, split}
 use Rattle.std.proofs.lemmas.Str.{IsUtf8-from_is_utf8, is_utf8-from_IsUtf8}
 use Rattle.std.specs.Str.{chars, is_utf8}
 use Rattle.std.specs.Prelude.{codes}
-use Rattle.worked.specs.Rules.{WorkedLimits, WorkedRefusals, WorkedRules, acute_e}
+use Rattle.text.specs.Texts.{GoodText}
+use Rattle.text.specs.declared.refusal.Refusal.{Refusal}
+use Rattle.worked.specs.Pages.{short}
+use Rattle.worked.specs.Rules.{RefusedIn, WorkedLimits, WorkedRefusals, WorkedRules, acute_e}
+
+-- the refusal of a message that is fine in a window of one row
+one-refusal : (p : Page) (r : Option Refusal) → GoodText (codes "b") → RefusedIn 1 false (Unit {0}) (message (codes "b")) (short p) r → r ≡ None
+unfolding put_pen place_row full chars
+one-refusal p r g (inl x) = absurd (x.0 refl)
+one-refusal p r g (inr (a, inl x)) = absurd (x.0 tt)
+one-refusal p r g (inr (a, inr (b, inl x))) = absurd (x.0 g)
+one-refusal p r g (inr (a, inr (b, inr (c, inl x)))) = absurd (x.0 (omega arith))
+one-refusal p r g (inr (a, inr (b, inr (c, inr (d, inl x))))) = absurd (x.0 tt)
+one-refusal p r g (inr (a, inr (b, inr (c, inr (d, inr (e, inl x)))))) = absurd (x.0 (omega arith))
+one-refusal p r g (inr (a, inr (b, inr (c, inr (d, inr (e, inr (f, x))))))) = x
 
 worked-refusals : (p : Page) → WorkedRefusals p
 unfolding put_pen place_row full chars
@@ -22,6 +37,8 @@ worked-refusals p = record {
   place-fifth = inr (refl, inr (tt, inr (tt, inr (tt, inl ((λ h. let le = h.0 in omega arith), refl)))));
   tall-sixth = inr (refl, inr (tt, inr (tt, inr (tt, inr (tt, inl ((λ h. omega arith), refl))))));
   tall-message = λ g. inr (refl, inr (tt, inr (g, inr (omega arith, inr (tt, inl ((λ h. omega arith), refl))))));
+  create-fine = inr (refl, inr (tt, inr (tt, inr (tt, inr (tt, inr (omega arith, refl))))));
+  fine-alone = λ r g h. one-refusal p r g h;
   fine = λ g. inr (refl, inr (tt, inr (g, inr (omega arith, inr (tt, inr (omega arith, refl))))));
 }
 

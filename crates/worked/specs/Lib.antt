@@ -4,4 +4,5 @@ pub mod Rows
 pub mod Writes
 pub mod Pages
 pub mod Rules
+pub mod Steps
 pub mod Worked

@@ -175,6 +175,7 @@ module _ (p : Page) where
     pub finish-there : wrote true false (plainly []) finish (created p) ≡ (10 ∷ []) ∷ []
     pub finish-in-row : wrote true false (plainly []) finish (next (go 0) short) ≡ (27 ∷ codes "[C") ∷ (10 ∷ []) ∷ []
     pub finish-below : wrote true false (plainly []) finish (gone p) ≡ (27 ∷ codes "[B" ++ (27 ∷ codes "[D")) ∷ (10 ∷ []) ∷ []
+    pub refresh-end : wrote false false (answers None false (codes "abc") []) refresh (set_to p) ≡ (13 ∷ 27 ∷ codes "[K" ++ (27 ∷ codes "[A" ++ (13 ∷ 27 ∷ codes "[K> abc" ++ (10 ∷ 13 ∷ [])))) ∷ []
     pub insert-alone : wrote true false (plainly []) (insert (codes "b") 1) short ≡ codes "b" ∷ []
 
   -- the examples of this file

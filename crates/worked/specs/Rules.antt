@@ -29,6 +29,8 @@ module _ (p : Page) where
     pub place-fifth : RefusedIn 1 false (Unit {0}) (go 9) (middle p) (Some refusal.Place)
     pub tall-sixth : RefusedIn 1 false (Unit {0}) refresh (middle p) (Some refusal.Tall)
     pub tall-message : GoodText (codes "bc") → RefusedIn 1 false (Unit {0}) (message (codes "bc")) (short p) (Some refusal.Tall)
+    pub create-fine : RefusedIn 1 false (Unit {0}) create (middle p) None
+    pub fine-alone : (r : Option Refusal) → GoodText (codes "b") → RefusedIn 1 false (Unit {0}) (message (codes "b")) (short p) r → r ≡ None
     pub fine : GoodText (codes "b") → RefusedIn 1 false (Unit {0}) (message (codes "b")) (short p) None
 
   -- a line or notice of 4,096 bytes is fine, a message of 1,024, and a position at the line's end; more is not, nor a position inside a character

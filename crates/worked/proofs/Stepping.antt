@@ -1,0 +1,47 @@
+-- The examples about steps.
+use Rattle.std.proofs.Common.{◌≡◌, ℕ, suc, Bool, true, false, List, [], ◌∷◌, ◌++◌, length, take, drop, Ok, Err, Result, refl, sym, ap, ◌∙◌, subst, append-nil}
+use Rattle.page.specs.Law.{Settings, World, Written, broke, done, later, next}
+use Rattle.page.specs.declared.outcome.BrokenAct.{BrokenAct}
+use Rattle.worked.specs.Steps.{Told, WorkedAsks, WorkedSteps}
+
+-- of two lists in a row the first is the front
+front : {A : Type 0} (xs ys : List A) → xs ≡ take (length xs) (xs ++ ys)
+front [] ys = refl
+front (x ∷ xs) ys = ap (λ l. x ∷ l) (front xs ys)
+
+module _ {T H : Type 0} (w : World T H) (z : Settings) where
+  abbrev Tells : T → List (List ℕ) → Result Unit BrokenAct → T → Type 0
+  Tells s ws (Ok u) t = Unit {0}
+  Tells s ws (Err e) t = Told w z s ws e t
+
+  tells : (s t : T) (ws : List (List ℕ)) (r : Result Unit BrokenAct) → Written w.answered s ws r t → Tells s ws r t
+  tells s t ws r done = tt
+  tells s t ws r (next h k) = tt
+  tells s t ws r (later {t = u} {ws = vs} {n = n} {e = f} h k) =
+      let x = tells u t vs (Err (record { number = n; write = f })) k in
+      record { before = x.before; text = x.text; taken = next h x.taken; at = x.at; ends = x.ends }
+  tells s t ws r (broke {w = v} h) = record { before = s; text = v; taken = done; at = refl; ends = h }
+
+  pub worked-asks : WorkedAsks w z
+  worked-asks = record {
+    hinter = refl;
+    hint-new = λ m n l x g. g.hint;
+    finish-none = λ p q h k b a. a;
+    notice-none = λ t p q h k b a. a;
+    stays-none = λ x p q h k b e a. rw e at a;
+    moves-asks = λ x p q h k b c e a. rw c at (rw e at a);
+    set-asks = λ l x p q h k b c a. rw c at a;
+    uncoloured = λ l x p q h k b c a. rw c at a;
+  }
+
+  pub worked-steps : WorkedSteps w z
+  worked-steps = record {
+    refused = λ m n a e s. s.1;
+    sizes = λ m s. s;
+    message-drawn = λ t r p q. refl;
+    clear-drawn = λ r p q. refl;
+    prompt-lit = λ h q r c. c.prompt;
+    number = λ s t ws e x. tells s t ws (Err e) x;
+    done-first = λ t u h k acts alive g. front g.done g.left ∙ ap (take (length g.done)) (sym g.given);
+    done-all = λ t u h k acts g. sym (g.given ∙ ap (λ l. g.done ++ l) (g.whole refl) ∙ append-nil g.done);
+  }
