@@ -1,8 +1,7 @@
 #!/usr/bin/env python3
 """Tries planted slips, and writes what came of them to docs/PLANTED.md.
 
-    tools/plant_bugs.py [--together [--rounds N]] [--scratch FOLDER] [--only WORD] NAME..   tries planted/NAME/*.edit and writes the table
-    tools/plant_bugs.py --facts [--scratch FOLDER] [--only WORD] page       tries slips in definitions by the worked facts alone
+    tools/plant_bugs.py [--together [--rounds N]] [--scratch FOLDER] [--only WORD] [--untried] NAME..   tries planted/NAME/*.edit and writes the table
     tools/plant_bugs.py --table                                   writes the table anew of what is known
     tools/plant_bugs.py --list                                    says which edits cannot be applied
 
@@ -15,9 +14,6 @@ what came of it. An edit that is still proved is then tried in the crates above,
 
 With --together the slips in code that are in functions of their own are planted together, and one `rt check` says what came of each: the
 proof of a function takes nothing from the body of another, so each verdict is the same as alone, and much sooner had.
-
-With --facts the lemmas of the crate are left out, so that no proof written for the text as it was stands in the way, and `rt check worked`
-says which worked fact is false under the slip. A slip under which all are true is not judged by that.
 
 Verdicts: `fact` a goal failed that the changed code or definition has to meet; `written proof` a proof written for the text as it was no
 longer fits (weaker: another proof could do); `name` only a name or a type is wrong (shows nothing: replace the edit); `survived`.
@@ -252,37 +248,6 @@ def try_above(scratch, name, edit, above, pairs):
     return "survived", f"also in {', '.join(above)}"
 
 
-def worked_fact(scratch, line):
-    """The worked fact that an error is about: the field that stands at its place."""
-    at = re.match(r"(?:note: )?(?:\./)?(\S+?):(\d+):", line)
-    if not at or not os.path.isfile(f"{scratch}/crates/worked/{at[1]}"):
-        return ""
-    with open(f"{scratch}/crates/worked/{at[1]}", encoding="utf-8") as it:
-        field = re.match(r" *([\w-]+) = ", it.read().split("\n")[int(at[2]) - 1])
-    return field[1] if field else ""
-
-
-def try_facts(scratch, name, edit):
-    """The worked fact that is false under a slip in a definition, the crate's own lemmas left out."""
-    folder = f"{scratch}/crates/{name}"
-    _, _, pairs = read_edit(f"{ROOT}/planted/{name}/{edit}")
-    texts, were = applied(folder, pairs), {}
-    for file, text in texts.items():
-        with open(f"{folder}/{file}", encoding="utf-8") as it:
-            were[file] = it.read()
-        with open(f"{folder}/{file}", "w", encoding="utf-8") as it:
-            it.write(text)
-    ran = subprocess.run([*RT, "check"], cwd=f"{scratch}/crates/worked", stdout=subprocess.PIPE, stderr=subprocess.STDOUT, text=True)
-    for file, text in were.items():
-        with open(f"{folder}/{file}", "w", encoding="utf-8") as it:
-            it.write(text)
-    errors = [it for it in ran.stdout.split("\n") if re.match(r"(note: )?\S+:\d+:\d+:", it) and ": error" in it]
-    fact = next((it for it in (worked_fact(scratch, line) for line in errors) if it), "")
-    if fact:
-        return "fact", f"in `worked`, where `{fact}` is false"
-    return "not tried", f"worked facts: {'all hold' if ran.returncode == 0 else (errors or [ran.stdout[-160:]])[0][:160]}"
-
-
 def known():
     """What came of each edit so far."""
     results = {}
@@ -333,18 +298,6 @@ def write_table(results):
         it.write(f"{head}<!-- rows -->\n\nIn all: {told}.\n\n## Slips in code\n\n{line}{code}\n\n## Slips in definitions\n\n{line}{specs}\n\n## Not tried yet\n\n{waiting}\n")
 
 
-def by_facts(scratch, name, edits):
-    """Tries slips in definitions by the worked facts, and keeps what they say."""
-    shutil.rmtree(f"{scratch}/crates/{name}/proofs", ignore_errors=True)
-    for edit in edits:
-        verdict, fact = try_facts(scratch, name, edit)
-        print(f"{name}/{edit}: {verdict} {fact}", flush=True)
-        if verdict == "fact":
-            now = known()
-            now[name, edit] = verdict, fact
-            keep(now)
-
-
 def main(words):
     if words == ["--list"]:
         for name in order():
@@ -355,12 +308,12 @@ def main(words):
         return 0
     results = known()
     if words != ["--table"]:
-        scratch, only, together, facts, rounds = "/tmp/planted", "", False, False, -1
+        scratch, only, together, untried, rounds = "/tmp/planted", "", False, False, -1
         while words and words[0].startswith("--"):
             if words[0] == "--together":
                 together, words = True, words[1:]
-            elif words[0] == "--facts":
-                facts, words = True, words[1:]
+            elif words[0] == "--untried":
+                untried, words = True, words[1:]
             elif words[0] == "--rounds":
                 rounds, words = int(words[1]), words[2:]
             elif words[0] == "--scratch":
@@ -370,9 +323,7 @@ def main(words):
         copy_to(scratch)
         for name in words:
             edits = [it for it in edits_of(name) if re.search(only, it)]
-            if facts:
-                by_facts(scratch, name, [it for it in edits if it.startswith("spec_")])
-                continue
+            edits = [it for it in edits if not untried or results.get((name, it), ("not tried",))[0] == "not tried"]
             code = [it for it in edits if not it.startswith("spec_")] if together else []
             tried = try_together(scratch, name, code, rounds) if code else {}
             others = [it for it in edits if it not in code]

@@ -8,6 +8,7 @@ use Rattle.std.specs.Fmt.{digits}
 use Rattle.std.specs.Str.{chars}
 use Rattle.worked.proofs.Paging.{worked-pages}
 use Rattle.worked.proofs.Refusing.{worked-rules}
+use Rattle.worked.proofs.Writing.{worked-writes}
 use Rattle.worked.proofs.Stepping.{worked-asks, worked-steps}
 use Rattle.worked.specs.Brackets.{WorkedBrackets}
 use Rattle.worked.specs.Places.{WorkedPlaces}
@@ -23,19 +24,6 @@ worked-places = record {
   one_more = record { measuring = λ tab. refl; drawing = refl };
   wide = record { measuring = λ tab. refl; drawing = refl };
   newline = record { measuring = λ tab. refl; drawing = refl };
-}
-
-worked-writes : (p : Page) → WorkedWrites p
-unfolding put_pen place_row place_col full chars digits
-worked-writes p = record {
-  set-abc = refl;
-  set-end = refl;
-  insert-d = refl;
-  insert-cursor = refl;
-  go-start = refl;
-  refresh-all = refl;
-  broken-cursor = refl;
-  broken-end = refl;
 }
 
 worked-brackets : WorkedBrackets

@@ -1,3 +1,4 @@
+pub mod Writing
 pub mod Paging
 pub mod Refusing
 pub mod Stepping

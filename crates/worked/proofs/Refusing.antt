@@ -14,15 +14,15 @@ use Rattle.worked.specs.Pages.{short}
 use Rattle.worked.specs.Rules.{RefusedIn, WorkedLimits, WorkedRefusals, WorkedRules, acute_e}
 
 -- the refusal of a message that is fine in a window of one row
-one-refusal : (p : Page) (r : Option Refusal) → GoodText (codes "b") → RefusedIn 1 false (Unit {0}) (message (codes "b")) (short p) r → r ≡ None
+fine-alone : (p : Page) (r : Option Refusal) → GoodText (codes "b") → RefusedIn 1 false (Unit {0}) (message (codes "b")) (short p) r → r ≡ None
 unfolding put_pen place_row full chars
-one-refusal p r g (inl x) = absurd (x.0 refl)
-one-refusal p r g (inr (a, inl x)) = absurd (x.0 tt)
-one-refusal p r g (inr (a, inr (b, inl x))) = absurd (x.0 g)
-one-refusal p r g (inr (a, inr (b, inr (c, inl x)))) = absurd (x.0 (omega arith))
-one-refusal p r g (inr (a, inr (b, inr (c, inr (d, inl x))))) = absurd (x.0 tt)
-one-refusal p r g (inr (a, inr (b, inr (c, inr (d, inr (e, inl x)))))) = absurd (x.0 (omega arith))
-one-refusal p r g (inr (a, inr (b, inr (c, inr (d, inr (e, inr (f, x))))))) = x
+fine-alone p r g (inl x) = absurd (x.0 refl)
+fine-alone p r g (inr (a, inl x)) = absurd (x.0 tt)
+fine-alone p r g (inr (a, inr (b, inl x))) = absurd (x.0 g)
+fine-alone p r g (inr (a, inr (b, inr (c, inl x)))) = absurd (x.0 (omega arith))
+fine-alone p r g (inr (a, inr (b, inr (c, inr (d, inl x))))) = absurd (x.0 tt)
+fine-alone p r g (inr (a, inr (b, inr (c, inr (d, inr (e, inl x)))))) = absurd (x.0 (omega arith))
+fine-alone p r g (inr (a, inr (b, inr (c, inr (d, inr (e, inr (f, x))))))) = x
 
 worked-refusals : (p : Page) → WorkedRefusals p
 unfolding put_pen place_row full chars
@@ -38,7 +38,7 @@ worked-refusals p = record {
   tall-sixth = inr (refl, inr (tt, inr (tt, inr (tt, inr (tt, inl ((λ h. omega arith), refl))))));
   tall-message = λ g. inr (refl, inr (tt, inr (g, inr (omega arith, inr (tt, inl ((λ h. omega arith), refl))))));
   create-fine = inr (refl, inr (tt, inr (tt, inr (tt, inr (tt, inr (omega arith, refl))))));
-  fine-alone = λ r g h. one-refusal p r g h;
+  fine-alone = λ r g h. fine-alone p r g h;
   fine = λ g. inr (refl, inr (tt, inr (g, inr (omega arith, inr (tt, inr (omega arith, refl))))));
 }
 
@@ -53,9 +53,9 @@ worked-limits p = record {
   longer-message = λ t e h. omega arith;
   longest-notice = λ t e. omega arith;
   longer-notice = λ t e h. omega arith;
+  place-inside = λ h. absurd (clash (is_utf8-from_IsUtf8 (195 ∷ []) h.1));
   place-end = (omega arith, IsUtf8-from_is_utf8 (codes "abc") refl);
   place-past = λ h. let le = h.0 in omega arith;
-  place-inside = λ h. absurd (clash (is_utf8-from_IsUtf8 (195 ∷ []) h.1));
 }
 
 pub worked-rules : (p : Page) → WorkedRules p

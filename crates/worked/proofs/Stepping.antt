@@ -14,13 +14,13 @@ module _ {T H : Type 0} (w : World T H) (z : Settings) where
   Tells s ws (Ok u) t = Unit {0}
   Tells s ws (Err e) t = Told w z s ws e t
 
-  tells : (s t : T) (ws : List (List ℕ)) (r : Result Unit BrokenAct) → Written w.answered s ws r t → Tells s ws r t
-  tells s t ws r done = tt
-  tells s t ws r (next h k) = tt
-  tells s t ws r (later {t = u} {ws = vs} {n = n} {e = f} h k) =
-      let x = tells u t vs (Err (record { number = n; write = f })) k in
+  number-tells : (s t : T) (ws : List (List ℕ)) (r : Result Unit BrokenAct) → Written w.answered s ws r t → Tells s ws r t
+  number-tells s t ws r done = tt
+  number-tells s t ws r (next h k) = tt
+  number-tells s t ws r (later {t = u} {ws = vs} {n = n} {e = f} h k) =
+      let x = number-tells u t vs (Err (record { number = n; write = f })) k in
       record { before = x.before; text = x.text; taken = next h x.taken; at = x.at; ends = x.ends }
-  tells s t ws r (broke {w = v} h) = record { before = s; text = v; taken = done; at = refl; ends = h }
+  number-tells s t ws r (broke {w = v} h) = record { before = s; text = v; taken = done; at = refl; ends = h }
 
   pub worked-asks : WorkedAsks w z
   worked-asks = record {
@@ -41,7 +41,7 @@ module _ {T H : Type 0} (w : World T H) (z : Settings) where
     message-drawn = λ t r p q. refl;
     clear-drawn = λ r p q. refl;
     prompt-lit = λ h q r c. c.prompt;
-    number = λ s t ws e x. tells s t ws (Err e) x;
+    number = λ s t ws e x. number-tells s t ws (Err e) x;
     done-first = λ t u h k acts alive g. front g.done g.left ∙ ap (take (length g.done)) (sym g.given);
     done-all = λ t u h k acts g. sym (g.given ∙ ap (λ l. g.done ++ l) (g.whole refl) ∙ append-nil g.done);
   }

@@ -43,9 +43,9 @@ module _ (p : Page) where
     pub longer-message : (t : List ℕ) → length t ≡ 1025 → LengthFine (message t) p → ⊥
     pub longest-notice : (t : List ℕ) → length t ≡ 4096 → LengthFine (notice t) p
     pub longer-notice : (t : List ℕ) → length t ≡ 4097 → LengthFine (notice t) p → ⊥
+    pub place-inside : PlaceFine (set acute_e 1) p → ⊥
     pub place-end : PlaceFine (set (codes "abc") 3) p
     pub place-past : PlaceFine (set (codes "abc") 4) p → ⊥
-    pub place-inside : PlaceFine (set acute_e 1) p → ⊥
 
   -- the examples of this file
   pub record WorkedRules : Type 0 where
