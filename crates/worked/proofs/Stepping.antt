@@ -1,8 +1,10 @@
 -- The examples about steps.
-use Rattle.std.proofs.Common.{◌≡◌, ℕ, suc, Bool, true, false, List, [], ◌∷◌, ◌++◌, length, take, drop, Ok, Err, Result, refl, sym, ap, ◌∙◌, subst, append-nil}
-use Rattle.page.specs.Law.{Settings, World, Written, broke, done, later, next}
+use Rattle.std.proofs.Common.{◌≡◌, ℕ, suc, ◌-◌, Bool, true, false, cond, List, [], ◌∷◌, ◌++◌, length, take, drop, Ok, Err, Result, refl, sym, ap, ◌∙◌, subst, append-nil}
+use Rattle.page.specs.Law.{Settings, World, Written, broke, done, geometry_of, later, next}
+use Rattle.page.specs.Page.{block_text}
 use Rattle.page.specs.declared.outcome.BrokenAct.{BrokenAct}
-use Rattle.worked.specs.Steps.{Told, WorkedAsks, WorkedSteps}
+use Rattle.screen.specs.Screen.{Paper, block, over}
+use Rattle.worked.specs.Steps.{Told, WorkedAsks, WorkedRuns, WorkedSteps}
 
 -- of two lists in a row the first is the front
 front : {A : Type 0} (xs ys : List A) → xs ≡ take (length xs) (xs ++ ys)
@@ -44,4 +46,22 @@ module _ {T H : Type 0} (w : World T H) (z : Settings) where
     number = λ s t ws e x. number-tells s t ws (Err e) x;
     done-first = λ t u h k acts alive g. front g.done g.left ∙ ap (take (length g.done)) (sym g.given);
     done-all = λ t u h k acts g. sym (g.given ∙ ap (λ l. g.done ++ l) (g.whole refl) ∙ append-nil g.done);
+  }
+
+  pub worked-runs : WorkedRuns w z
+  unfolding over
+  worked-runs = record {
+    begin-acts = refl;
+    no-second = λ e es c. c.0;
+    not-made = λ e x. x;
+    close-acts = refl;
+    close-refused = refl;
+    ready-ended = λ m es h e. h.ready e;
+    torn-accepted = refl;
+    torn-refused = λ b. refl;
+    torn-broken = λ b. refl;
+    torn-refuses = λ m n o x t. x.others t refl;
+    torn-not-yet = λ t h. refl;
+    last-two = λ m e f. refl;
+    rows-above = λ p s i j x e. ap (λ (q : Paper). q i j) x.paper ∙ ap (λ (b : Bool). cond b (p.upper i) ((block (geometry_of w z) (block_text z.prompt p)).paper (i - p.base)) j) e;
   }

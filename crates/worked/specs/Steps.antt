@@ -1,16 +1,19 @@
 -- What a step says of who is asked, of a refusal, and of the write that broke. Assumes nothing.
-use Rattle.std.specs.Prelude.{◌≡◌, ℕ, suc, Bool, true, false, map, List, [], ◌∷◌, length, take, drop, None, Ok, Err, Option}
+use Rattle.std.specs.Prelude.{◌≡◌, ℕ, suc, Bool, true, false, map, List, [], ◌∷◌, length, take, drop, None, Ok, Err, Option, nat_lt}
 use Rattle.page.specs.Acts.{Act, Replies, asks_hinter, clear, create, finish, go, insert, message, notice, refresh, set, stays}
-use Rattle.page.specs.Law.{Asks, Coloured, Moment, Settings, SizeFine, Stepped, Went, World, Written, draws, geometry_of}
-use Rattle.page.specs.Page.{Page}
-use Rattle.page.specs.Runs.{Ran}
+use Rattle.page.specs.Law.{Asks, Coloured, Entry, Moment, Settings, SizeFine, Stepped, Tears, Went, World, Written, draws, geometry_of, torn_after}
+use Rattle.page.specs.Page.{Page, Shows}
+use Rattle.page.specs.Rules.{Outcome}
+use Rattle.page.specs.Runs.{Continues, Holds, Made, Ran, beginning, begins, closes, last_of}
 use Rattle.page.specs.declared.outcome.BrokenAct.{BrokenAct}
-use Rattle.page.specs.declared.outcome.Rejection.TheVariants.{Refused}
+use Rattle.page.specs.declared.outcome.Rejection.TheVariants.{Broke, Refused}
 use Rattle.screen.specs.Screen.{Screen}
 use Rattle.terminal.specs.Answers.{WriteAnswer}
+use Rattle.terminal.specs.Windows.{Ready}
 use Rattle.terminal.specs.Writing.{Ends}
 use Rattle.terminal.specs.declared.size.Size.{Size}
 use Rattle.text.specs.declared.refusal.Refusal.{Refusal}
+use Rattle.text.specs.declared.refusal.Refusal.TheVariants.{Tall, Torn}
 
 -- what terminals, highlighters and hinters say, by tests; their states are numbers
 pub record Tests : Type 0 where
@@ -40,6 +43,10 @@ world_of t = record {
   hints = t.hints;
 }
 
+-- one act of each kind
+abbrev pub every_act : List Act
+every_act = create ∷ insert [] 1 ∷ set [] 0 ∷ go 0 ∷ refresh ∷ message [] ∷ notice [] ∷ clear ∷ finish ∷ []
+
 module _ {T H : Type 0} (w : World T H) (z : Settings) where
   -- a broken write by its number: those before it are taken, and it is the one that broke
   pub record Told (s : T) (ws : List (List ℕ)) (e : BrokenAct) (t : T) : Type 0 where
@@ -51,7 +58,7 @@ module _ {T H : Type 0} (w : World T H) (z : Settings) where
 
   -- hinter and highlighter are asked by some acts and not by others, a go that stays asks nobody, and with colours off nobody is asked
   pub record WorkedAsks : Type 0 where
-    pub hinter : map asks_hinter (create ∷ insert [] 1 ∷ set [] 0 ∷ go 0 ∷ refresh ∷ message [] ∷ notice [] ∷ clear ∷ finish ∷ []) ≡ true ∷ true ∷ true ∷ false ∷ true ∷ false ∷ false ∷ true ∷ false ∷ []
+    pub hinter : map asks_hinter every_act ≡ true ∷ true ∷ true ∷ false ∷ true ∷ false ∷ false ∷ true ∷ false ∷ []
     pub hint-new : (m n : Moment T H) (l : List ℕ) (x : ℕ) (g : Went w z m (set l x) (Ok tt) n) → g.replies.hint ≡ w.hints l x
     pub finish-none : (p q : Page) (h k : H) (b : Bool) → Asks w z finish p q h b k → k ≡ h
     pub notice-none : (t : List ℕ) (p q : Page) (h k : H) (b : Bool) → Asks w z (notice t) p q h b k → k ≡ h
@@ -70,3 +77,19 @@ module _ {T H : Type 0} (w : World T H) (z : Settings) where
     pub number : (s t : T) (ws : List (List ℕ)) (e : BrokenAct) → Written w.answered s ws (Err e) t → Told s ws e t
     pub done-first : (t u : T) (h k : H) (acts : List Act) (alive : Bool) (g : Ran w z t h acts alive u k) → g.done ≡ take (length g.done) acts
     pub done-all : (t u : T) (h k : H) (acts : List Act) (g : Ran w z t h acts true u k) → g.done ≡ acts
+
+  -- a create and no other act begins a session and none comes again, an accepted finish and no other act ends it; what is broken is torn, and then other acts than clear are refused for it; the rows above the block are those of the page
+  pub record WorkedRuns : Type 0 where
+    pub begin-acts : map begins every_act ≡ true ∷ false ∷ false ∷ false ∷ false ∷ false ∷ false ∷ false ∷ false ∷ []
+    pub no-second : (e : Entry T H) (es : List (Entry T H)) → Continues w z (e ∷ es) → begins e.act ≡ false
+    pub not-made : (e : Refusal) → Made w z (Err (Refused e)) → ⊥
+    pub close-acts : map (λ a. closes a (Ok tt)) every_act ≡ false ∷ false ∷ false ∷ false ∷ false ∷ false ∷ false ∷ false ∷ true ∷ []
+    pub close-refused : closes finish (Err (Refused Torn)) ≡ false
+    pub ready-ended : (m : Moment T H) (es : List (Entry T H)) → Holds w z m es → (last_of w z m es).page.ended ≡ true → Ready (w.screen (last_of w z m es).terminal)
+    pub torn-accepted : torn_after true (Ok tt) ≡ false
+    pub torn-refused : (b : Bool) → torn_after b (Err (Refused Tall)) ≡ b
+    pub torn-broken : (b : BrokenAct) → torn_after false (Err (Broke b)) ≡ true
+    pub torn-refuses : (m n : Moment T H) (o : Outcome) → Tears w z m (go 0) o n → m.torn ≡ true → o ≡ Err (Refused Torn)
+    pub torn-not-yet : (t : T) (h : H) → (beginning t h).torn ≡ false
+    pub last-two : (m : Moment T H) (e f : Entry T H) → last_of w z m (e ∷ f ∷ []) ≡ f.after
+    pub rows-above : (p : Page) (s : Screen) (i j : ℕ) → Shows (geometry_of w z) z.prompt p s → nat_lt i p.base ≡ true → s.pen.paper i j ≡ p.upper i j

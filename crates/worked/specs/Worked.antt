@@ -6,7 +6,7 @@ use Rattle.worked.specs.Pages.{WorkedPages}
 use Rattle.worked.specs.Places.{WorkedPlaces}
 use Rattle.worked.specs.Rows.{WorkedDrops, WorkedHalves, WorkedMarks, WorkedWrap}
 use Rattle.worked.specs.Rules.{WorkedRules}
-use Rattle.worked.specs.Steps.{Tests, WorkedAsks, WorkedSteps, world_of}
+use Rattle.worked.specs.Steps.{Tests, WorkedAsks, WorkedRuns, WorkedSteps, world_of}
 use Rattle.worked.specs.Writes.{WorkedWrites}
 
 -- every example holds
@@ -17,6 +17,7 @@ pub record WorkedFacts : Type 0 where
   pub rules : (p : Page) → WorkedRules p
   pub asks : (t : Tests) (z : Settings) → WorkedAsks (world_of t) z
   pub steps : (t : Tests) (z : Settings) → WorkedSteps (world_of t) z
+  pub runs : (t : Tests) (z : Settings) → WorkedRuns (world_of t) z
   pub brackets : WorkedBrackets
   pub halves : WorkedHalves
   pub wrap : WorkedWrap
