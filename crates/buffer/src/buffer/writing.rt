@@ -1,5 +1,5 @@
 // What puts bytes into a buffer.
-ghost use Rattle.std.specs.Prelude.{◌≡◌, ◌∷◌, ◌++◌, [], take, drop};
+ghost use Rattle.std.specs.Prelude.{◌≡◌, ◌+◌, ◌≤◌, ◌∷◌, ◌++◌, [], length, take, drop};
 ghost use Rattle.std.specs.List.{repeat};
 ghost use Rattle.buffer.specs.Contents.{Becomes, contents};
 
@@ -51,12 +51,20 @@ impl<const N: usize> Buffer<N> {
         if bytes.len() > N - self.len {
             return Err(Full);
         }
+        self.append(bytes);
+        Ok(())
+    }
+
+    // Puts bytes behind those that are there, where there is room for them.
+    fn append(&mut self, bytes: &[u8])
+        requires { length (contents self.old) + length bytes.now ≤ N }
+        ensures { contents self.new ≡ contents self.old ++ bytes.now }
+    {
         let len = self.len;
         let end = len + bytes.len();
         let memory = &mut self.memory[..];
         memory[len..end].copy_from_slice(bytes);
         self.len = end;
-        Ok(())
     }
 
     // Puts a byte behind those that are there, unless there is no room for it.
@@ -85,7 +93,7 @@ impl<const N: usize> Buffer<N> {
             return Err(Full);
         }
         for _ in 0..count {
-            self.extend_from_slice(text).unwrap();
+            self.append(text);
         }
         Ok(())
     }
