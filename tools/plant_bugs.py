@@ -1,7 +1,7 @@
 #!/usr/bin/env python3
 """Tries planted slips, and writes what came of them to docs/PLANTED.md.
 
-    tools/plant_bugs.py [--together [--rounds N]] [--scratch FOLDER] [--only WORD] NAME..   tries planted/NAME/*.edit and writes the table
+    tools/plant_bugs.py [--together [--rounds N]] [--scratch FOLDER] [--only WORD] [--untried] NAME..   tries planted/NAME/*.edit and writes the table
     tools/plant_bugs.py --table                                   writes the table anew of what is known
     tools/plant_bugs.py --list                                    says which edits cannot be applied
 
@@ -27,6 +27,8 @@ import sys
 ROOT = os.path.dirname(os.path.dirname(os.path.abspath(__file__)))
 TABLE = f"{ROOT}/docs/PLANTED.md"
 RESULTS = f"{ROOT}/planted/results.txt"
+# how rt is called: RT="/path/slot rt" has each call wait for its turn
+RT = os.environ.get("RT", "rt").split()
 NAMES = re.compile(r"has no field|is not in scope|has no `|was not admitted|mismatched types|is no name")
 
 
@@ -133,7 +135,7 @@ def try_own(scratch, name, edits):
     os.makedirs(folder)
     for it in edits:
         shutil.copy(f"{ROOT}/planted/{name}/{it}", folder)
-    ran = subprocess.run(["rt", "must-fail", name], cwd=scratch, stdout=subprocess.PIPE, stderr=subprocess.STDOUT, text=True)
+    ran = subprocess.run([*RT, "must-fail", name], cwd=scratch, stdout=subprocess.PIPE, stderr=subprocess.STDOUT, text=True)
     results = {}
     for line in ran.stdout.split("\n"):
         at = re.search(rf"must-fail {name}/([\w-]+\.edit): ", line)
@@ -192,7 +194,7 @@ def try_together(scratch, name, edits, rounds):
         for file, text in texts.items():
             with open(f"{folder}/{file}", "w", encoding="utf-8") as it:
                 it.write(text)
-        ran = subprocess.run(["rt", "check"], cwd=folder, stdout=subprocess.PIPE, stderr=subprocess.STDOUT, text=True)
+        ran = subprocess.run([*RT, "check"], cwd=folder, stdout=subprocess.PIPE, stderr=subprocess.STDOUT, text=True)
         for file, text in were.items():
             with open(f"{folder}/{file}", "w", encoding="utf-8") as it:
                 it.write(text)
@@ -203,7 +205,7 @@ def try_together(scratch, name, edits, rounds):
         for edit, own, _ in taken:
             blamed = [it for it in lines if blames(it, own, texts, name)]
             state = [said for path, said in states if path.split("::")[-1] in {function for _, _, function in own}]
-            waits = any("it calls" in said or "waits for" in said for said in state)
+            waits = any(re.search(r"it calls|waits for|a call of|does not cover", said) for said in state)
             if blamed:
                 first = next((it for it in blamed if not re.match(r"(note: )?(\./)?proofs/", it)), blamed[0])
                 results[edit] = class_of(first), first[:200]
@@ -232,7 +234,7 @@ def try_above(scratch, name, edit, above, pairs):
             it.write(text)
     try:
         for crate in above:
-            ran = subprocess.run(["rt", "check"], cwd=f"{scratch}/crates/{crate}", stdout=subprocess.PIPE, stderr=subprocess.STDOUT, text=True)
+            ran = subprocess.run([*RT, "check"], cwd=f"{scratch}/crates/{crate}", stdout=subprocess.PIPE, stderr=subprocess.STDOUT, text=True)
             if ran.returncode:
                 lines = [it for it in ran.stdout.split("\n") if re.match(r"(note: )?\S+:\d+:\d+:", it)]
                 told = [it for it in lines if ": error" in it] or lines
@@ -306,10 +308,12 @@ def main(words):
         return 0
     results = known()
     if words != ["--table"]:
-        scratch, only, together, rounds = "/tmp/planted", "", False, -1
+        scratch, only, together, untried, rounds = "/tmp/planted", "", False, False, -1
         while words and words[0].startswith("--"):
             if words[0] == "--together":
                 together, words = True, words[1:]
+            elif words[0] == "--untried":
+                untried, words = True, words[1:]
             elif words[0] == "--rounds":
                 rounds, words = int(words[1]), words[2:]
             elif words[0] == "--scratch":
@@ -319,6 +323,7 @@ def main(words):
         copy_to(scratch)
         for name in words:
             edits = [it for it in edits_of(name) if re.search(only, it)]
+            edits = [it for it in edits if not untried or results.get((name, it), ("not tried",))[0] == "not tried"]
             code = [it for it in edits if not it.startswith("spec_")] if together else []
             tried = try_together(scratch, name, code, rounds) if code else {}
             others = [it for it in edits if it not in code]

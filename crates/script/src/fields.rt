@@ -1,5 +1,5 @@
 // The fields of a line: words, numbers and quoted strings, with blanks between them.
-ghost use Rattle.std.specs.Prelude.{◌≡◌, length};
+ghost use Rattle.std.specs.Prelude.{◌≡◌, ◌<◌, ◌==◌, true, [], length, MatchResult};
 ghost use Rattle.script.specs.Fields.{is_blank, run_of, behind_run, first_word, behind_word};
 
 use crate::error::Wrong;
@@ -83,12 +83,17 @@ impl<'a> Fields<'a> {
     }
 
     // Whether only blanks are left.
-    pub(crate) fn is_empty(&self) -> bool {
-        self.rest.iter().all(|byte| is_blank(*byte))
+    pub(crate) fn is_empty(&self) -> bool
+        ensures { result ≡ (length (behind_run true self.now.rest.now) == 0) }
+    {
+        let (_, behind) = split_run(self.rest, true);
+        behind.is_empty()
     }
 
     // Refuses a line on which more is left.
-    pub(crate) fn end(&self) -> Result<(), Wrong> {
+    pub(crate) fn end(&self) -> Result<(), Wrong>
+        ensures { MatchResult result (λ _. behind_run true self.now.rest.now ≡ []) (λ wrong. (wrong ≡ Wrong.More) × (0 < length (behind_run true self.now.rest.now))) }
+    {
         if self.is_empty() {
             Ok(())
         } else {

@@ -6,9 +6,14 @@ use Rattle.screen.specs.Bytes.{act, begin, finish, move, step_in}
 use Rattle.screen.specs.Screen.{full, mark_at, on_row, place_col, place_row, placed, put_pen, split, wipe_from}
 use Rattle.std.specs.Fmt.{digits}
 use Rattle.std.specs.Str.{chars}
+use Rattle.worked.proofs.Paging.{worked-pages}
+use Rattle.worked.proofs.Refusing.{worked-rules}
+use Rattle.worked.proofs.Writing.{worked-writes}
+use Rattle.worked.proofs.Stepping.{worked-asks, worked-runs, worked-steps}
 use Rattle.worked.specs.Brackets.{WorkedBrackets}
 use Rattle.worked.specs.Places.{WorkedPlaces}
 use Rattle.worked.specs.Rows.{WorkedDrops, WorkedHalves, WorkedMarks, WorkedWrap}
+use Rattle.worked.specs.Steps.{world_of}
 use Rattle.worked.specs.Worked.{WorkedFacts}
 use Rattle.worked.specs.Writes.{WorkedWrites}
 
@@ -19,19 +24,6 @@ worked-places = record {
   one_more = record { measuring = λ tab. refl; drawing = refl };
   wide = record { measuring = λ tab. refl; drawing = refl };
   newline = record { measuring = λ tab. refl; drawing = refl };
-}
-
-worked-writes : (p : Page) → WorkedWrites p
-unfolding put_pen place_row place_col full chars digits
-worked-writes p = record {
-  set-abc = refl;
-  set-end = refl;
-  insert-d = refl;
-  insert-cursor = refl;
-  go-start = refl;
-  refresh-all = refl;
-  broken-cursor = refl;
-  broken-end = refl;
 }
 
 worked-brackets : WorkedBrackets
@@ -78,4 +70,4 @@ worked-drops = record {
 }
 
 pub worked-proof : WorkedFacts
-worked-proof = record { places = worked-places; writes = worked-writes; brackets = worked-brackets; halves = worked-halves; wrap = worked-wrap; marks = worked-marks; drops = worked-drops }
+worked-proof = record { places = worked-places; writes = worked-writes; pages = worked-pages; rules = worked-rules; asks = λ t z. worked-asks (world_of t) z; steps = λ t z. worked-steps (world_of t) z; runs = λ t z. worked-runs (world_of t) z; brackets = worked-brackets; halves = worked-halves; wrap = worked-wrap; marks = worked-marks; drops = worked-drops }

@@ -1,1 +1,5 @@
+pub mod Writing
+pub mod Paging
+pub mod Refusing
+pub mod Stepping
 pub mod Computing
