@@ -6,8 +6,7 @@ set -e
 mkdir -p theirs/src
 cp -r ../oracle/src/. theirs/src/
 # the crate root without the oracle's own modules, and with ours
-grep -v -e '^mod driver;' -e '^mod fuzz;' -e '^mod report;' -e '^mod rules;' -e '^mod bracket_probe;' -e '^#\[path = "../own/' ../oracle/src/main.rs \
-    | sed -e '/^fn main() {/,/^}/d' > theirs/src/lib.rs
+sed -e '/^#\[path = "\.\.\/own\//{N;d}' -e '/^mod bracket_probe;/d' -e '/^fn main() {/,/^}/d' ../oracle/src/main.rs > theirs/src/lib.rs
 rm -f theirs/src/main.rs theirs/src/bracket_probe.rs
 cat >> theirs/src/lib.rs <<'END'
 #[path = "../../own/theirs.rs"]

@@ -14,8 +14,14 @@ fn answer(s: &Step) -> String {
     };
     format!("{end} {}", escape(&s.worked))
 }
-/// a script, cut behind so many acts, with an answer behind each act: the crate's own where it is equal to ours, else that of our rules
-fn acts(out: &mut String, told: &str, script: &[u8], most: usize, kind: Kind) -> usize {
+/// the screen behind an act by our rules, in one line; none where no terminal has the size
+fn screen(s: &Step) -> Option<String> {
+    let lines: Vec<_> = s.text.lines().skip_while(|l| !l.starts_with("cursor ")).collect();
+    if lines.is_empty() { None } else { Some(lines.join(" ")) }
+}
+/// a script, cut behind so many acts, with an answer behind each act: the crate's own where it is equal to ours, else that of our rules;
+/// and with the screen behind each, if that is wanted
+fn acts(out: &mut String, told: &str, script: &[u8], most: usize, kind: Kind, screens: bool) -> usize {
     let (set, acts, _) = read(script);
     let mut acts: Vec<_> = acts.into_iter().take(most).collect();
     // an act without a session ends the script
@@ -35,6 +41,7 @@ fn acts(out: &mut String, told: &str, script: &[u8], most: usize, kind: Kind) ->
                 Verdict::NoName(e) => panic!("{told}: {e}"),
                 v => format!("# {}\n#rules {}\n", v.text(), answer(&steps[k])),
             };
+            if screens && let Some(shown) = screen(&steps[k]) { *out += &format!("#screen {shown}\n"); }
             k += 1;
         }
     }
@@ -72,6 +79,29 @@ fn limits() -> Vec<(&'static str, String)> {
     v
 }
 
+/// scripts that were written for one rule each: their screens are compared too
+const WRITTEN: [(&str, &str); 19] = [
+    ("worked", include_str!("../sample/worked.acts")),
+    ("parts", include_str!("../sample/parts.acts")),
+    ("holds", include_str!("../sample/holds.acts")),
+    ("inserts", include_str!("../sample/inserts.acts")),
+    ("places", include_str!("../sample/places.acts")),
+    ("tall", include_str!("../sample/tall.acts")),
+    ("hints", include_str!("../sample/hints.acts")),
+    ("below", include_str!("../sample/below.acts")),
+    ("brackets", include_str!("../sample/brackets.acts")),
+    ("asked", include_str!("../sample/asked.acts")),
+    ("colours_off", include_str!("../sample/colours_off.acts")),
+    ("marks", include_str!("../sample/marks.acts")),
+    ("eastern", include_str!("../sample/eastern.acts")),
+    ("torn", include_str!("../sample/torn.acts")),
+    ("torn_holds", include_str!("../sample/torn_holds.acts")),
+    ("notices", include_str!("../sample/notices.acts")),
+    ("notices_held", include_str!("../sample/notices_held.acts")),
+    ("interrupted", include_str!("../sample/interrupted.acts")),
+    ("finish", include_str!("../sample/finish.acts")),
+];
+
 /// cases of `calculate_position`: the crate's answer where ours is equal, else ours
 fn places(out: &mut String) -> usize {
     let mut n = 0;
@@ -93,7 +123,7 @@ fn places(out: &mut String) -> usize {
     put(format!("500 8 latin 0 60000 \"{}\"", "a".repeat(4097)), out);
     n
 }
-/// every line of up to four of five characters, at each position up to two past it: the crate's answers
+/// every line of up to three of five characters, at each position up to two past it: the crate's answers
 fn brackets(out: &mut String) -> usize {
     let mut n = 0;
     *out += "[brackets]\n# line, position\n";
@@ -112,16 +142,21 @@ fn brackets(out: &mut String) -> usize {
 pub fn main(seed: u64) {
     let mut out = format!("# Made by `oracle sample {seed}`: what is asked, and what the oracle answers.\n");
     let (mut n, mut made) = (0, 0);
-    for (told, script) in limits() { n += acts(&mut out, told, script.as_bytes(), 60, if script.contains("paper") { Kind::Paper } else if script.contains("fault") { Kind::Faults } else { Kind::Limits }); }
+    for (told, script) in limits() { n += acts(&mut out, told, script.as_bytes(), 60, if script.contains("paper") { Kind::Paper } else if script.contains("fault") { Kind::Faults } else { Kind::Limits }, false); }
     for number in 0.. {
         if made >= 4000 { break; }
         let s = make(seed, number);
         // long texts stand in the scripts above
         if s.kind == Kind::Limits { continue; }
-        made += acts(&mut out, &format!("script {number} of seed {seed}"), &s.bytes, 80, s.kind);
+        made += acts(&mut out, &format!("script {number} of seed {seed}"), &s.bytes, 80, s.kind, false);
     }
     let p = places(&mut out);
     let b = brackets(&mut out);
-    eprintln!("{} acts, {p} measured texts, {b} brackets", n + made);
+    let mut w = 0;
+    for (name, script) in WRITTEN {
+        let kind = if script.contains("\nfault ") { Kind::Faults } else { Kind::Limits };
+        w += acts(&mut out, &format!("oracle/sample/{name}.acts"), script.as_bytes(), usize::MAX, kind, true);
+    }
+    eprintln!("{} acts, {p} measured texts, {b} brackets, {w} acts with screens", n + made);
     std::print!("{out}");
 }

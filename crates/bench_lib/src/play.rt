@@ -57,6 +57,7 @@ pub struct Played {
 // The acts that are named by numbers.
 fn acts_of<'a>(heap: Global, deeds: &[Deed], texts: &'a [u8]) -> Option<Vec<Act<'a>>> {
     let mut acts = Vec::new(heap);
+    acts.reserve_exact(deeds.len()).ok()?;
     for deed in deeds {
         acts.push(deed.act(texts)).ok()?;
     }

@@ -1,10 +1,10 @@
 -- Hints that a window holds behind a line. Assumes nothing.
-use Rattle.std.specs.Prelude.{◌≡◌, ℕ, List, [], ◌++◌, take, None, Option}
-use Rattle.judging.specs.Judgements.{Behind, Low}
+use Rattle.std.specs.Prelude.{◌≡◌, ℕ, List, [], ◌++◌, take, Option}
+use Rattle.judging.specs.Judgements.{Behind, Low, PlacedFor}
+use Rattle.judging.specs.declared.judging.Placed.{Placed}
 use Rattle.layout.specs.declared.block.Layout.{Layout}
 use Rattle.layout.specs.declared.layout.Position.{Position}
-use Rattle.measuring.specs.Measured.{EndsFor, Laid}
-use Rattle.measuring.specs.declared.measuring.LineEnds.{LineEnds}
+use Rattle.measuring.specs.Measured.{Laid}
 use Rattle.page.specs.Acts.{fitted}
 use Rattle.page.specs.Page.{note_text}
 use Rattle.page.specs.Rules.{AtBoundary}
@@ -19,21 +19,17 @@ abbrev pub LaidOut : Geometry → List ℕ → List ℕ → ℕ → Option (List
 LaidOut d ps line pos note l = Laid d ps (ps ++ chars (take pos line)) (ps ++ (chars line ++ note_text note)) l
 
 -- a line that the window holds, measured behind its prompt
-pub record Standing (w : ℕ → ℕ) (p : Position) (z : Size) (e : LineEnds) (ps line : List ℕ) (pos : ℕ) : Type 0 where
+pub record Standing (w : ℕ → ℕ) (p : Position) (z : Size) (e : Placed) (ps line : List ℕ) (pos : ℕ) : Type 0 where
   pub behind : Behind w z ps p
   pub text : GoodText line
   pub place : AtBoundary line pos
-  pub ends : EndsFor w z.cols ps line pos e
+  pub placed : PlacedFor w z ps line pos e
   pub low : Low (geometry w z) ps line []
-
--- the layout of a line without a note
-abbrev pub LaysLine : (ℕ → ℕ) → Position → Size → LineEnds → Layout → Type 0
-LaysLine w p z e l = (ps line : List ℕ) (pos : ℕ) → Standing w p z e ps line pos → LaidOut (geometry w z) ps line pos None l
 
 -- a hint that the window holds stays, another is dropped; and the layout with what is left
 pub record Fits (d : Geometry) (ps line : List ℕ) (pos : ℕ) (before : Option (List ℕ)) (l : Layout) (after : Option (List ℕ)) : Type 0 where
   pub hint : after ≡ fitted d ps line before
   pub laid : LaidOut d ps line pos after l
 
-abbrev pub FitsHint : (ℕ → ℕ) → Position → Size → LineEnds → Option (List ℕ) → Layout → Option (List ℕ) → Type 0
+abbrev pub FitsHint : (ℕ → ℕ) → Position → Size → Placed → Option (List ℕ) → Layout → Option (List ℕ) → Type 0
 FitsHint w p z e before l after = (ps line : List ℕ) (pos : ℕ) → Standing w p z e ps line pos → Fits (geometry w z) ps line pos before l after

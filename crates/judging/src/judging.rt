@@ -10,17 +10,24 @@ use measuring::measuring::{LineEnds, Window, measure_insert, measure_line};
 use text::refusal::Refusal;
 use widths::tables::WidthTable;
 
-// The places of a line that the window holds with its prompt, else a refusal.
-fn held<W: WidthTable>(window: Window, ends: Option<LineEnds>) -> Result<LineEnds, Refusal>
+// A line that a window holds behind its prompt: where it ends, and its layout without a note.
+#[derive(Clone, Copy)]
+pub struct Placed {
+    pub ends: LineEnds,
+    pub layout: Layout,
+}
+
+// A line that the window holds with its prompt, by where it ends; else a refusal.
+fn held<W: WidthTable>(window: Window, ends: Option<LineEnds>) -> Result<Placed, Refusal>
     ensures { Holding W.WidthTable.columns window.prompt window.size ends result }
 {
     let ends = ends.ok_or(Refusal::Tall)?;
-    window.line_layout::<W>(ends).ok_or(Refusal::Tall)?;
-    Ok(ends)
+    let layout = window.line_layout::<W>(ends).ok_or(Refusal::Tall)?;
+    Ok(Placed { ends, layout })
 }
 
 // The line as it is.
-pub fn judge_line<W: WidthTable>(window: Window, buffer: &LineBuffer) -> Result<LineEnds, Refusal>
+pub fn judge_line<W: WidthTable>(window: Window, buffer: &LineBuffer) -> Result<Placed, Refusal>
     ensures { JudgesLine W.WidthTable.columns window.prompt window.size (line_of buffer.now) buffer.now.pos result }
 {
     let cols = window.size.cols();
@@ -29,11 +36,7 @@ pub fn judge_line<W: WidthTable>(window: Window, buffer: &LineBuffer) -> Result<
 }
 
 // Another line and position.
-pub fn judge_set<W: WidthTable>(
-    window: Window,
-    line: &[u8],
-    pos: usize,
-) -> Result<LineEnds, Refusal>
+pub fn judge_set<W: WidthTable>(window: Window, line: &[u8], pos: usize) -> Result<Placed, Refusal>
     ensures { JudgesSet W.WidthTable.columns window.prompt window.size line.now pos result }
 {
     LineBuffer::check_update(line, pos)?;
@@ -47,7 +50,7 @@ pub fn judge_insert<W: WidthTable>(
     buffer: &LineBuffer,
     text: &[u8],
     count: u16,
-) -> Result<LineEnds, Refusal>
+) -> Result<Placed, Refusal>
     ensures { JudgesInsert W.WidthTable.columns window.prompt window.size (line_of buffer.now) buffer.now.pos text.now count result }
 {
     buffer.check_insert(text, count)?;

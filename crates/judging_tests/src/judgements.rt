@@ -1,11 +1,11 @@
 // Which refusal comes first, and which hints fit. What is expected follows from the rules (docs/REFUSALS.md): 3, 4, 5, 6.
 use crate::places::{place, window};
-use judging::hints::{bare_layout, fit_hint};
-use judging::judging::{judge_insert, judge_line, judge_message, judge_set};
+use judging::hints::fit_hint;
+use judging::judging::{Placed, judge_insert, judge_line, judge_message, judge_set};
 use layout::layout::Position;
 use lines::line_buffer::LineBuffer;
 use lines::note::Note;
-use measuring::measuring::{LineEnds, Window};
+use measuring::measuring::Window;
 use std::test::Fail;
 use terminal::size::Size;
 use text::refusal::Refusal;
@@ -91,12 +91,15 @@ fn messages(rt: HostRuntime) -> Result<(), Fail> {
     Ok(())
 }
 
-// The line `a` behind `> `.
-fn ends() -> LineEnds {
-    LineEnds {
-        cursor: place((3, 0)),
-        end: place((3, 0)),
-    }
+// A line with the edit position at its end, judged behind `> ` in a window of 5 columns.
+fn judged(text: &[u8], rows: u16) -> Result<Result<Placed, Refusal>, Fail> {
+    let mut line = LineBuffer::new();
+    line.update(text, text.len())?;
+    let window = Window {
+        size: Size::new(5, rows)?,
+        prompt: place((2, 0)),
+    };
+    Ok(judge_line::<Latin>(window, &line))
 }
 
 // A hint that the window holds stays, and the block ends behind it; one that it does not hold is dropped.
@@ -109,37 +112,36 @@ fn hints(rt: HostRuntime) -> Result<(), Fail> {
         (b"bcdefgh", None),
         (b"b\n\n", None),
     ];
+    let line = judged(b"a", 2)??;
     for (text, expected) in cases {
         let mut hint = Note::new();
         hint.set(text)?;
-        let layout = fit_hint::<Latin>(window()?, ends(), &mut hint);
+        let layout = fit_hint::<Latin>(window()?, line, &mut hint);
         assert_eq!(rt; layout.end(), expected.unwrap_or(place((3, 0))), "{text:?}");
         assert_eq!(rt; layout.cursor(), place((3, 0)));
         assert_eq!(rt; hint.get().is_some(), expected.is_some(), "{text:?}");
         assert!(rt; hint.get().is_none_or(|left| left == text), "{text:?}");
     }
     let mut none = Note::new();
-    let layout = fit_hint::<Latin>(window()?, ends(), &mut none);
+    let layout = fit_hint::<Latin>(window()?, line, &mut none);
     assert_eq!(rt; layout.end(), place((3, 0)));
     assert!(rt; none.get().is_none());
     Ok(())
 }
 
-// The layout of a line alone; where the window does not hold it, there is nothing to draw.
+// A judged line comes with its places and its layout: a full row counts as the next in the layout alone.
 #[test]
 fn lines_alone(rt: HostRuntime) -> Result<(), Fail> {
-    let layout = bare_layout::<Latin>(window()?, ends());
-    assert_eq!(rt; layout.end(), place((3, 0)));
-    let one_row = Window {
-        size: Size::new(5, 1)?,
-        prompt: place((2, 0)),
-    };
-    let full = LineEnds {
-        cursor: place((3, 0)),
-        end: place((5, 0)),
-    };
-    let layout = bare_layout::<Latin>(one_row, full);
-    assert_eq!(rt; layout.end(), place((0, 0)));
-    assert!(rt; !layout.full());
+    let short = judged(b"a", 2)??;
+    assert_eq!(rt; short.ends.end, place((3, 0)));
+    assert_eq!(rt; short.layout.end(), place((3, 0)));
+    assert!(rt; !short.layout.full());
+    let full = judged(b"123", 2)??;
+    assert_eq!(rt; full.ends.end, place((5, 0)));
+    assert_eq!(rt; full.layout.end(), place((0, 1)));
+    assert_eq!(rt; full.layout.cursor(), place((0, 1)));
+    assert_eq!(rt; full.layout.prompt_size(), place((2, 0)));
+    assert!(rt; full.layout.full());
+    assert_eq!(rt; judged(b"123", 1)?.err(), Some(Refusal::Tall));
     Ok(())
 }

@@ -1,5 +1,5 @@
 -- Bytes that are one character, and bytes that are not.
-use Rattle.std.proofs.Common.{◌≡◌, ℕ, ◌*◌, ◌≤◌, Bool, true, false, eqb, List, [], ◌++◌, length, drop, Some, None, Option, Decides, sym, ap, ◌∙◌, refl, subst, append-nil, mul-le-mul, arith}
+use Rattle.std.proofs.Common.{◌≡◌, ℕ, ◌*◌, ◌<◌, ◌≤◌, Bool, true, false, eqb, List, [], ◌++◌, length, get_or, drop, Some, None, Option, Decides, sym, ap, ◌∙◌, refl, subst, append-nil, mul-le-mul, arith}
 use lib.Utf8.{encode}
 use Rattle.page.specs.Rules.{OneCharacter}
 use Rattle.std.proofs.lemmas.List.{drop_all}
@@ -7,7 +7,7 @@ use Rattle.std.proofs.lemmas.Bool.{eqb-false, eqb-true, false≢true}
 use Rattle.std.proofs.lemmas.Str.{length-encode, len_utf8_bounds}
 use Rattle.std.proofs.lemmas.Bool.Decides.{Decides-like}
 use Rattle.std.specs.Option.{MatchOption}
-use Rattle.text.proofs.Decodes.{front_same}
+use Rattle.text.proofs.Decodes.{front_same, plain-front}
 use Rattle.text.specs.Characters.{Good}
 use Rattle.text.specs.Decoding.{Decodes, Front, NoCharacter}
 use Rattle.text.specs.declared.decode.Decoded.{Decoded}
@@ -43,6 +43,10 @@ one-decides bs (Some d) r f t = by (eqb d.len (length bs)) refl
     by : (b : Bool) → eqb d.len (length bs) ≡ b → Decides r (OneCharacter bs)
     by true e = let all = eqb-true d.len (length bs) e in one_found bs d r f all (t.0 all)
     by false e = let fewer = eqb-false d.len (length bs) e in subst (λ x. Decides x (OneCharacter bs)) (sym (t.1 fewer)) (one-longer bs d f fewer)
+
+-- one byte below 128
+pub one-plain : (bs : List ℕ) (c : ℕ) (r : Bool) → length bs ≡ 1 → c ≡ get_or bs 0 0 → c < 128 → Decides r (Good c) → Decides r (OneCharacter bs)
+one-plain bs c r long e low good = one_found bs (record { code = c; len = 1 }) r (plain-front bs c (omega arith) e low) (sym long) good
 
 one-short : (bs : List ℕ) → OneCharacter bs → length bs ≤ 4
 one-short bs (c, g, e) = omega (arith, ap length e, length-encode c, len_utf8_bounds c)

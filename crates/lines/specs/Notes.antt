@@ -1,6 +1,5 @@
 -- A note, and what changes it. Assumes nothing.
-use Rattle.std.specs.Prelude.{◌≡◌, ℕ, ◌≤◌, List, length, Some, None, Ok, Err, Option, Result}
-use Rattle.buffer.specs.Contents.{contents}
+use Rattle.std.specs.Prelude.{◌≡◌, ℕ, ◌≤◌, List, length, take, Some, None, Ok, Err, Option, Result}
 use Rattle.lines.specs.declared.note.Note.{Note}
 use Rattle.page.specs.Rules.{Needs, NothingElse}
 use Rattle.std.specs.Option.{option_map}
@@ -10,7 +9,7 @@ use Rattle.text.specs.declared.refusal.Refusal.TheVariants.{Long, Text}
 
 -- the note's bytes, or none
 abbrev pub note_of : Note → Option (List ℕ)
-note_of n = option_map contents n.text
+note_of n = option_map (λ k. take k n.memory) n.len
 
 -- a new note: a good text, of at most 1,024 bytes
 abbrev pub NoteRule : List ℕ → Option Refusal → Type 0

@@ -1,10 +1,8 @@
 -- A text that may be stored. Assumes nothing.
-use Rattle.std.specs.Prelude.{ℕ, Bool, true, Some, None, Option}
-use Rattle.buffer.specs.Contents.{contents}
-use Rattle.buffer.specs.declared.buffer.Buffer.{Buffer}
+use Rattle.std.specs.Prelude.{ℕ, Bool, true, ◌&&◌, nat_le, List, take, Some, None, Option}
 use Rattle.text.specs.Tests.{good_bytes}
 
--- none, or a good text
-abbrev pub stores_good : {N : ℕ} → Option (Buffer N) → Bool
-stores_good None = true
-stores_good (Some held) = good_bytes (contents held)
+-- no text, or so many bytes at the front of a memory, at most 1,024, which are a good text
+abbrev pub stores_good : List ℕ → Option ℕ → Bool
+stores_good memory None = true
+stores_good memory (Some n) = nat_le n 1024 && good_bytes (take n memory)

@@ -1,13 +1,12 @@
 // What is printed of each act.
 use crate::byte_report::print_bytes;
+use crate::ending::Ending;
 use crate::fault::PlayFault;
 use crate::screen_report::print_screen;
 use crate::visible::Visible;
-use page::outcome::Rejection;
+use crate::watcher::{Done, Watcher};
 use running::act::Act;
 use std::io::Write;
-use terminal::size::Size;
-use terminal::terminal::{WriteAnswer, WriteError};
 use text::refusal::Refusal;
 
 // The word that a script has for an act.
@@ -24,60 +23,29 @@ pub(crate) fn act_name(act: &Act<'_>) -> &'static str {
     }
 }
 
-// The word for the answer that broke a write.
-fn answer_word(answer: WriteAnswer) -> &'static str {
-    match answer {
-        Ok(_) => "zero",
-        Err(WriteError::Interrupted) => "interrupted",
-        Err(WriteError::Down) => "down",
+// Prints each act when it is done: how it ended, which of its bytes have worked, and the screen then.
+#[derive(Drop)]
+pub(crate) struct Reporter {
+    pub(crate) rt: HostRuntime,
+}
+
+impl Watcher for Reporter {
+    fn told<S: Visible>(&mut self, terminal: &S, done: Done<'_>) -> Result<(), PlayFault> {
+        let rt = &self.rt;
+        let name = done.name;
+        let ending = Ending {
+            outcome: done.outcome,
+        };
+        println!(rt; "{name}: {ending}")?;
+        print_bytes(rt, done.worked)?;
+        print_screen(rt, terminal, done.size, done.torn)?;
+        // what was printed so far is to be seen
+        rt.stdout().flush()?;
+        Ok(())
     }
-}
 
-// Prints an act that a rule refused.
-pub(crate) fn print_refused(
-    rt: &HostRuntime,
-    name: &str,
-    refusal: Refusal,
-) -> Result<(), PlayFault> {
-    println!(rt; "{name}: refused {refusal}")?;
-    Ok(())
-}
-
-// Prints how an act ended.
-fn print_outcome(
-    rt: &HostRuntime,
-    name: &str,
-    outcome: Result<(), Rejection>,
-) -> Result<(), PlayFault> {
-    match outcome {
-        Ok(()) => println!(rt; "{name}: accepted")?,
-        Err(Rejection::Refused(refusal)) => print_refused(rt, name, refusal)?,
-        Err(Rejection::Broke(broken)) => {
-            let answer = answer_word(broken.write.answer);
-            println!(rt; "{name}: refused {broken} {answer}")?;
-        }
+    fn told_nowhere(&mut self, refusal: Refusal) -> Result<(), PlayFault> {
+        println!(self.rt; "create: refused {refusal}")?;
+        Ok(())
     }
-    Ok(())
-}
-
-// Lets what was printed so far be seen.
-pub(crate) fn flush(rt: &HostRuntime) -> Result<(), PlayFault> {
-    rt.stdout().flush()?;
-    Ok(())
-}
-
-// Prints how an act ended, which of its bytes have worked, and the screen then.
-pub(crate) fn print_act<S: Visible>(
-    rt: &HostRuntime,
-    name: &str,
-    outcome: Result<(), Rejection>,
-    worked: &[u8],
-    terminal: &S,
-    size: Size,
-    torn: bool,
-) -> Result<(), PlayFault> {
-    print_outcome(rt, name, outcome)?;
-    print_bytes(rt, worked)?;
-    print_screen(rt, terminal, size, torn)?;
-    flush(rt)
 }

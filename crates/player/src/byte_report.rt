@@ -13,8 +13,8 @@ fn hex_digit(value: u8) -> char {
 
 // Bytes as themselves, or as escapes where they are no plain ASCII.
 #[derive(Drop)]
-struct Escaped<'a> {
-    bytes: &'a [u8],
+pub struct Escaped<'a> {
+    pub bytes: &'a [u8],
 }
 
 impl fmt::Display for Escaped<'_> {

@@ -8,8 +8,6 @@ pub enum PlayFault {
     Memory,
     // printing failed
     Print(io::Error),
-    // the report of an act cannot be printed
-    Report,
     // what is wrong in the script
     Script(ScriptError),
 }
@@ -19,7 +17,6 @@ impl fmt::Display for PlayFault {
         match self {
             PlayFault::Memory => f.write_str("out of memory"),
             PlayFault::Print(error) => write!(f, "{error}"),
-            PlayFault::Report => f.write_str("the report cannot be printed"),
             PlayFault::Script(error) => write!(f, "{error}"),
         }
     }

@@ -1,9 +1,11 @@
-//! Scripts of acts, played on a grid and reported act by act.
+//! Scripts of acts, played on a grid and told act by act.
 #![tactic(auto)]
 
 mod act_report;
-mod byte_report;
+pub mod byte_report;
+pub mod ending;
 pub mod fault;
 pub mod play;
-mod screen_report;
-mod visible;
+pub mod screen_report;
+pub mod visible;
+pub mod watcher;

@@ -1,8 +1,8 @@
 // A script played on a grid.
-use crate::act_report::{act_name, flush, print_act, print_refused};
+use crate::act_report::{Reporter, act_name};
 use crate::fault::PlayFault;
-use crate::screen_report::print_screen;
 use crate::visible::Visible;
+use crate::watcher::{Done, Watcher};
 use faults::faulty::Faulty;
 use grid::grid::Grid;
 use highlight::highlight::Highlighter;
@@ -26,58 +26,65 @@ use terminal::terminal::Terminal;
 use text::refusal::Refusal;
 use widths::tables::{Eastern, Latin, Table, WidthTable};
 
-// Prints each act when it is done.
+// Tells a watcher of each act when it is done.
 #[derive(Drop)]
-struct Reporter {
-    rt: HostRuntime,
+struct Teller<'a, L> {
+    watcher: &'a mut L,
     // the terminal's window
     size: Size,
-    // how many bytes of the log have been reported
+    // how many bytes of the log have been told
     seen: usize,
     // how many acts behind create have been done
     done: usize,
-    // printing failed, and nothing more is printed
-    stopped: bool,
+    // why nothing more is told
+    fault: Option<PlayFault>,
 }
 
-impl Reporter {
-    fn report<S: Visible>(
+impl<L: Watcher> Teller<'_, L> {
+    // Tells of an act whose bytes are the newest of the log.
+    fn tell<S: Visible>(
         &mut self,
         terminal: &S,
-        name: &str,
+        name: &'static str,
         outcome: Result<(), Rejection>,
         torn: bool,
     ) {
-        if self.stopped {
+        if self.fault.is_some() {
             return;
         }
         let log = terminal.log();
         let seen = self.seen.min(log.len());
-        let printed = print_act(
-            &self.rt,
+        self.seen = log.len();
+        let done = Done {
             name,
             outcome,
-            &log[seen..],
-            terminal,
-            self.size,
+            worked: &log[seen..],
+            size: self.size,
             torn,
-        );
-        self.stopped = printed.is_err();
-        self.seen = log.len();
+        };
+        self.fault = self.watcher.told(terminal, done).err();
+    }
+
+    // The fault that ended the telling, if one did.
+    fn check(&mut self) -> Result<(), PlayFault> {
+        match self.fault.take() {
+            Some(fault) => Err(fault),
+            None => Ok(()),
+        }
     }
 }
 
-impl<S: Visible> Observer<S> for Reporter {
-    // what is printed is free
+impl<S: Visible, L: Watcher> Observer<S> for Teller<'_, L> {
+    // what is told is free
     ghost told = { λ before terminal act outcome torn after. Unit {0} };
 
     fn created(&mut self, terminal: &S, outcome: Result<(), Rejection>, torn: bool) {
-        self.report(terminal, "create", outcome, torn);
+        self.tell(terminal, "create", outcome, torn);
     }
 
     fn acted(&mut self, terminal: &S, act: &Act<'_>, outcome: Result<(), Rejection>, torn: bool) {
         self.done = self.done.saturating_add(1);
-        self.report(terminal, act_name(act), outcome, torn);
+        self.tell(terminal, act_name(act), outcome, torn);
     }
 }
 
@@ -121,8 +128,9 @@ fn none_left(lines: &[ScriptLine], done: usize) -> Result<(), PlayFault> {
 }
 
 // Plays one session: create, and the acts up to the next. Answers whether the session is then open.
-fn play_session<S: Terminal + Visible, H: Highlighter>(
-    reporter: &mut Reporter,
+fn play_session<S: Terminal + Visible, H: Highlighter, L: Watcher>(
+    teller: &mut Teller<'_, L>,
+    heap: Global,
     terminal: &mut S,
     highlighter: &mut H,
     hinter: &ScriptHinter<'_>,
@@ -130,8 +138,8 @@ fn play_session<S: Terminal + Visible, H: Highlighter>(
     setup: &Setup,
     lines: &[ScriptLine],
 ) -> Result<bool, PlayFault> {
-    let acts = acts_of(reporter.rt.alloc(), lines)?;
-    reporter.done = 0;
+    let acts = acts_of(heap, lines)?;
+    teller.done = 0;
     let session = run(
         terminal,
         highlighter,
@@ -139,28 +147,14 @@ fn play_session<S: Terminal + Visible, H: Highlighter>(
         tables,
         setup,
         acts.as_slice(),
-        reporter,
+        teller,
     );
-    if reporter.stopped {
-        return Err(PlayFault::Report);
-    }
+    teller.check()?;
     if session.is_some() {
         return Ok(true);
     }
-    none_left(lines, reporter.done)?;
+    none_left(lines, teller.done)?;
     Ok(false)
-}
-
-// Prints that the check refused a session, and the screen as it stands.
-fn print_unchecked<S: Visible>(
-    rt: &HostRuntime,
-    terminal: &S,
-    size: Size,
-    refusal: Refusal,
-) -> Result<(), PlayFault> {
-    print_refused(rt, "create", refusal)?;
-    print_screen(rt, terminal, size, false)?;
-    flush(rt)
 }
 
 // What the check says of a script's settings.
@@ -176,8 +170,9 @@ fn check_settings<S: Terminal>(settings: &Settings) -> Result<Setup, Refusal> {
 }
 
 // Checks one session and plays it. Answers whether it is then open.
-fn play_checked<S: Terminal + Visible, H: Highlighter + Copy>(
-    reporter: &mut Reporter,
+fn play_checked<S: Terminal + Visible, H: Highlighter + Copy, L: Watcher>(
+    teller: &mut Teller<'_, L>,
+    heap: Global,
     terminal: &mut S,
     mut highlighter: H,
     tables: &mut Tables,
@@ -187,7 +182,8 @@ fn play_checked<S: Terminal + Visible, H: Highlighter + Copy>(
     let hinter = ScriptHinter::new(settings.captions.as_slice());
     match check_settings::<S>(settings) {
         Ok(setup) => play_session(
-            reporter,
+            teller,
+            heap,
             terminal,
             &mut highlighter,
             &hinter,
@@ -196,7 +192,8 @@ fn play_checked<S: Terminal + Visible, H: Highlighter + Copy>(
             lines,
         ),
         Err(refusal) => {
-            print_unchecked(&reporter.rt, terminal, reporter.size, refusal)?;
+            teller.tell(terminal, "create", Err(Rejection::Refused(refusal)), false);
+            teller.check()?;
             none_left(lines, 0)?;
             Ok(false)
         }
@@ -204,20 +201,21 @@ fn play_checked<S: Terminal + Visible, H: Highlighter + Copy>(
 }
 
 // Plays every session of a script on one terminal, each with the highlighter as given.
-fn play_sessions<S: Terminal + Visible, H: Highlighter + Copy>(
-    rt: &HostRuntime,
+fn play_sessions<S: Terminal + Visible, H: Highlighter + Copy, L: Watcher>(
+    watcher: &mut L,
+    heap: Global,
     terminal: &mut S,
     highlighter: H,
     script: &Script,
 ) -> Result<(), PlayFault> {
     let lines = script.acts.as_slice();
     let mut tables = Tables::new();
-    let mut reporter = Reporter {
-        rt: rt.clone()?,
+    let mut teller = Teller {
+        watcher,
         size: terminal.size(),
         seen: 0,
         done: 0,
-        stopped: false,
+        fault: None,
     };
     let mut open = false;
     none_left(lines, 0)?;
@@ -229,7 +227,8 @@ fn play_sessions<S: Terminal + Visible, H: Highlighter + Copy>(
             return Err(wrong(line.line, Wrong::Open));
         }
         open = play_checked(
-            &mut reporter,
+            &mut teller,
+            heap,
             terminal,
             highlighter,
             &mut tables,
@@ -241,28 +240,29 @@ fn play_sessions<S: Terminal + Visible, H: Highlighter + Copy>(
 }
 
 // Plays a script with the highlighter of its settings.
-fn play_on<S: Terminal + Visible + Drop>(
-    rt: &HostRuntime,
+fn play_on<S: Terminal + Visible + Drop, L: Watcher>(
+    watcher: &mut L,
+    heap: Global,
     mut terminal: S,
     script: &Script,
 ) -> Result<(), PlayFault> {
     match script.settings.highlighting {
-        Highlighting::Plain => play_sessions(rt, &mut terminal, PlainHighlighter, script),
-        Highlighting::Brackets => play_sessions(
-            rt,
-            &mut terminal,
-            MatchingBracketHighlighter::new(),
-            script,
-        ),
+        Highlighting::Plain => {
+            play_sessions(watcher, heap, &mut terminal, PlainHighlighter, script)
+        }
+        Highlighting::Brackets => {
+            let brackets = MatchingBracketHighlighter::new();
+            play_sessions(watcher, heap, &mut terminal, brackets, script)
+        }
     }
 }
 
 // The sessions of a script whose size no terminal has: each is refused.
-fn play_nowhere(rt: &HostRuntime, lines: &[ScriptLine]) -> Result<(), PlayFault> {
+fn play_nowhere<L: Watcher>(watcher: &mut L, lines: &[ScriptLine]) -> Result<(), PlayFault> {
     for line in lines {
         match act_of(&line.act) {
             Some(_) => return Err(wrong(line.line, Wrong::NoSession)),
-            None => print_refused(rt, "create", Refusal::Size)?,
+            None => watcher.told_nowhere(Refusal::Size)?,
         }
     }
     Ok(())
@@ -283,33 +283,43 @@ fn lowest_of<W: WidthTable + Copy>(
     Ok(Faulty::new(grid, faults, Vec::new(heap)))
 }
 
-// Plays a script, up to its end or to the first line that is wrong.
+// Plays a script by a width table.
 // More than three pacers do what three do, and three what one does: each passes on at most 32 bytes.
-fn play<W: WidthTable + Copy>(
-    rt: &HostRuntime,
+fn play_by<W: WidthTable + Copy, L: Watcher>(
+    watcher: &mut L,
+    heap: Global,
     widths: W,
     script: &Script,
 ) -> Result<(), PlayFault> {
     let settings = &script.settings;
     let Ok(size) = Size::new(settings.cols, settings.rows) else {
-        return play_nowhere(rt, script.acts.as_slice());
+        return play_nowhere(watcher, script.acts.as_slice());
     };
-    let lowest = lowest_of(rt.alloc(), widths, settings, size)?;
+    let lowest = lowest_of(heap, widths, settings, size)?;
     match settings.pace {
-        0 => play_on(rt, lowest, script),
-        1 => play_on(rt, Pacer::new(lowest), script),
-        2 => play_on(rt, Pacer::new(Pacer::new(lowest)), script),
-        _ => play_on(rt, Pacer::new(Pacer::new(Pacer::new(lowest))), script),
+        0 => play_on(watcher, heap, lowest, script),
+        1 => play_on(watcher, heap, Pacer::new(lowest), script),
+        2 => play_on(watcher, heap, Pacer::new(Pacer::new(lowest)), script),
+        _ => {
+            let paced = Pacer::new(Pacer::new(Pacer::new(lowest)));
+            play_on(watcher, heap, paced, script)
+        }
+    }
+}
+
+// Plays a script that was read, up to its end, to the first line that is wrong, or to a fault of the watcher.
+pub fn play<L: Watcher>(watcher: &mut L, heap: Global, script: &Script) -> Result<(), PlayFault> {
+    match script.settings.table {
+        Table::Latin => play_by(watcher, heap, Latin, script),
+        Table::Eastern => play_by(watcher, heap, Eastern, script),
     }
 }
 
 // Plays a script of acts and prints its report, and then says what is wrong in it, if anything is.
 pub fn play_script(rt: &HostRuntime, bytes: &[u8]) -> Result<(), PlayFault> {
     let mut script = read_script(rt.alloc(), bytes).map_err(|_| PlayFault::Memory)?;
-    match script.settings.table {
-        Table::Latin => play(rt, Latin, &script)?,
-        Table::Eastern => play(rt, Eastern, &script)?,
-    }
+    let mut reporter = Reporter { rt: rt.clone()? };
+    play(&mut reporter, rt.alloc(), &script)?;
     match script.error.take() {
         Some(error) => Err(PlayFault::Script(error)),
         None => Ok(()),

@@ -58,28 +58,52 @@ fn yes_or_no(fact: bool) -> &'static str {
     if fact { "yes" } else { "no" }
 }
 
-// Prints the cursor, the window, the held mark, whether the session is torn, and the rows.
+// The cursor, the window, the held mark, whether the session is torn, and the rows, each behind a character.
+#[derive(Drop)]
+pub struct Shown<'a, S> {
+    pub terminal: &'a S,
+    pub size: Size,
+    pub torn: bool,
+    pub before_row: char,
+}
+
+impl<S: Visible> fmt::Display for Shown<'_, S> {
+    fn fmt<W: fmt::Write>(&self, f: &mut fmt::Formatter<W>) -> fmt::Result {
+        let terminal = self.terminal;
+        let row = terminal.row();
+        let col = terminal.col();
+        let top = terminal.top();
+        let held = yes_or_no(terminal.held());
+        let torn = yes_or_no(self.torn);
+        write!(f, "cursor {row} {col} window {top} held {held} torn {torn}")?;
+        let cols = usize::from(self.size.cols());
+        let last = last_row(terminal, usize::from(self.size.rows()), cols);
+        for row in 0..=last {
+            let row = Row {
+                terminal,
+                row,
+                cols,
+            };
+            f.write_char(self.before_row)?;
+            write!(f, "|{row}|")?;
+        }
+        Ok(())
+    }
+}
+
+// Prints the screen, each row in a line.
 pub(crate) fn print_screen<S: Visible>(
     rt: &HostRuntime,
     terminal: &S,
     size: Size,
     torn: bool,
 ) -> Result<(), PlayFault> {
-    let row = terminal.row();
-    let col = terminal.col();
-    let top = terminal.top();
-    let held = yes_or_no(terminal.held());
-    let torn = yes_or_no(torn);
-    println!(rt; "cursor {row} {col} window {top} held {held} torn {torn}")?;
-    let cols = usize::from(size.cols());
-    let last = last_row(terminal, usize::from(size.rows()), cols);
-    for row in 0..=last {
-        let row = Row {
-            terminal,
-            row,
-            cols,
-        };
-        println!(rt; "|{row}|")?;
-    }
+    let shown = Shown {
+        terminal,
+        size,
+        torn,
+        before_row: '\n',
+    };
+    println!(rt; "{shown}")?;
     Ok(())
 }

@@ -5,7 +5,7 @@ use screen::cells::Cell;
 use terminal::pacer::Pacer;
 
 // A terminal whose screen and log can be read.
-pub(crate) trait Visible {
+pub trait Visible {
     // The bytes that have worked.
     fn log(&self) -> &[u8];
 

@@ -24,7 +24,7 @@ struct Case {
     bytes: &'static [u8],
 }
 
-// By the crate's own text, as a part of what `oracle acts --gate` writes for oracle/session_tests/worked.acts (the first three),
+// By the crate's own text, as a part of what `oracle acts --gate` writes for oracle/sample/worked.acts (the first three),
 // parts.acts, marks.acts; where the text ends with LF, by the rule that only a full row has a closing LF (docs/DIFFERENCES.md, L).
 const CASES: [Case; 6] = [
     // the text ends on a full row
@@ -146,7 +146,7 @@ fn draws(rt: HostRuntime) -> Result<(), Fail> {
 }
 
 // With colours the styled prompt and the highlighter's answers are drawn, without them the raw prompt and the plain texts.
-// By the crate's own text: `oracle acts --gate` for oracle/session_tests/brackets.acts and colours_off.acts.
+// By the crate's own text: `oracle acts --gate` for oracle/sample/brackets.acts and colours_off.acts.
 #[test]
 fn colours(rt: HostRuntime) -> Result<(), Fail> {
     let prompt = Prompt::new(b"> ", b"\x1b[1m>\x1b[0m ")?;

@@ -1,5 +1,5 @@
 // Why a replay cannot go on.
-use script::error::ScriptError;
+use player::fault::PlayFault;
 use std::alloc::{AllocError, AllocFailed};
 use std::{fmt, io};
 
@@ -7,8 +7,8 @@ use std::{fmt, io};
 pub(crate) enum Fault {
     Memory,
     Input(io::Error),
-    // a script of the sample that cannot be read
-    Script(ScriptError),
+    // of an act, or of a line that is printed
+    Play(PlayFault),
     // a line of the sample that says no case
     Case(usize),
 }
@@ -18,7 +18,7 @@ impl fmt::Display for Fault {
         match self {
             Fault::Memory => f.write_str("out of memory"),
             Fault::Input(error) => write!(f, "{error}"),
-            Fault::Script(error) => write!(f, "a script that is wrong in its {error}"),
+            Fault::Play(fault) => write!(f, "a script of the sample: {fault}"),
             Fault::Case(line) => write!(f, "line {line}: no case of the sample"),
         }
     }
@@ -27,6 +27,12 @@ impl fmt::Display for Fault {
 impl From<io::Error> for Fault {
     fn from(error: io::Error) -> Fault {
         Fault::Input(error)
+    }
+}
+
+impl From<PlayFault> for Fault {
+    fn from(fault: PlayFault) -> Fault {
+        Fault::Play(fault)
     }
 }
 

@@ -4,8 +4,7 @@
 mod answers;
 mod cases;
 mod fault;
-mod logged;
-mod play;
+mod holder;
 mod sample;
 mod tally;
 

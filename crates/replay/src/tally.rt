@@ -1,5 +1,5 @@
 // Answers held against those of the oracle, and counted.
-use crate::fault::Fault;
+use player::fault::PlayFault;
 use std::fmt;
 
 // An answer of the oracle, and the line of the sample in which it stands, from 1.
@@ -31,7 +31,7 @@ impl Tally {
         rt: &HostRuntime,
         ours: &A,
         expected: Expected<'_>,
-    ) -> Result<(), Fault> {
+    ) -> Result<(), PlayFault> {
         let text = format!(in rt.alloc(); "{ours}")?;
         if text.as_bytes() == expected.answer {
             self.equal = self.equal.saturating_add(1);
@@ -44,7 +44,7 @@ impl Tally {
     }
 
     // Counts an answer for which there is nothing to hold against it.
-    pub(crate) fn miss(&mut self, rt: &HostRuntime, line: usize) -> Result<(), Fault> {
+    pub(crate) fn miss(&mut self, rt: &HostRuntime, line: usize) -> Result<(), PlayFault> {
         self.different = self.different.saturating_add(1);
         println!(rt; "line {line}: an act or an answer is missing")?;
         Ok(())

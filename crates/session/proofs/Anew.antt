@@ -4,7 +4,7 @@ use Rattle.lines.proofs.Buffers.{line-place}
 use Rattle.lines.proofs.Rules.{update-once}
 use Rattle.lines.specs.Lines.{Holds, line_of, UpdateRule}
 use Rattle.lines.specs.declared.line_buffer.LineBuffer.{LineBuffer}
-use Rattle.measuring.specs.declared.measuring.LineEnds.{LineEnds}
+use Rattle.judging.specs.declared.judging.Placed.{Placed}
 use Rattle.page.proofs.Admitting.{Admitted, admitted}
 use Rattle.page.specs.Acts.{Act, refresh, set}
 use Rattle.page.specs.Law.{World}
@@ -31,7 +31,7 @@ module _ {T H : Type 0} (w : World T H) (x : State T H) where
   pub line_refused : (a : Act) (e : Refusal) (q : LineBuffer) → q ≡ x.tables.line → (Sound w.columns x.session x.tables → ⊥) → Acted w x a (Err (Refused e)) (state_of x.terminal x.highlighter x.session (with_line q x.tables))
   line_refused a e q is never = subst (λ (l : LineBuffer). Acted w x a (Err (Refused e)) (state_of x.terminal x.highlighter x.session (with_line l x.tables))) (sym is) (refused-acted w x a e (λ s. absurd (never s)))
 
-module _ {T H : Type 0} (w : World T H) (x y : State T H) (e : LineEnds) (r : Result Unit BrokenAct) (o : Outcome) (is : o ≡ outcome_of r) where
+module _ {T H : Type 0} (w : World T H) (x y : State T H) (e : Placed) (r : Result Unit BrokenAct) (o : Outcome) (is : o ≡ outcome_of r) where
   pub refresh-acted : JudgesEnds w.columns x.session x.tables (w.extent x.terminal) refresh (line_of x.tables.line) x.tables.line.pos (Ok e) → Refreshed w e x r y → Acted w x refresh o y
   refresh-acted judged f =
       subst (λ (p : Outcome). Acted w x refresh p y) (sym is)
@@ -39,7 +39,7 @@ module _ {T H : Type 0} (w : World T H) (x y : State T H) (e : LineEnds) (r : Re
       refresh judged (λ _. (line-good x.tables, line-place x.tables.line)) refl (λ v h. h) (λ v. refl) (λ v. refl) (λ v q h. h) (λ t v. refl) (λ t v. refl)
       (redrawn-layout w x y (line_of x.tables.line) x.tables.line.pos e f.layout f.session x.tables f.tables r (refl, refl) refl f.prepares (painted-left f.paints) f.paints.drew.styles))
 
-module _ {T H : Type 0} (w : World T H) (x : State T H) (line : List ℕ) (pos : ℕ) (e : LineEnds) (judged : JudgesEnds w.columns x.session x.tables (w.extent x.terminal) (set line pos) line pos (Ok e)) where
+module _ {T H : Type 0} (w : World T H) (x : State T H) (line : List ℕ) (pos : ℕ) (e : Placed) (judged : JudgesEnds w.columns x.session x.tables (w.extent x.terminal) (set line pos) line pos (Ok e)) where
   met : Sound w.columns x.session x.tables → Admitted (geometry w.columns x.session.size) (prompt_of x.tables) (is_torn x.session.standing) ((w.extent x.terminal ≡ x.session.size) × (x.session.begun ≡ x.session.size)) (set line pos) (page_of x.session x.tables bare_view)
   met s = admitted (geometry w.columns x.session.size) (prompt_of x.tables) (is_torn x.session.standing) ((w.extent x.terminal ≡ x.session.size) × (x.session.begun ≡ x.session.size)) (set line pos) (page_of x.session x.tables bare_view) (judged.refuses s bare_view)
 

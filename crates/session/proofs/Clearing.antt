@@ -2,13 +2,12 @@
 use Rattle.std.proofs.Common.{◌≡◌, ℕ, ◌+◌, ◌^◌, ◌<◌, ◌≤◌, Bool, true, false, ◌&&◌, List, [], ◌∷◌, ◌++◌, length, is_err, Some, None, Ok, Err, Result, sym, refl, ap, ◌∙◌, subst, arith}
 use Rattle.session.specs.Styling.{StyledTexts}
 use mir.Val.{bool_byte}
-use Rattle.judging.specs.Judgements.{Low}
+use Rattle.judging.specs.Judgements.{Low, PlacedFor}
 use Rattle.layout.specs.Laying.{LaidAs, corner}
 use Rattle.layout.specs.declared.block.Layout.{Layout}
 use Rattle.lines.proofs.Buffers.{line-place}
 use Rattle.lines.specs.Lines.{line_of}
-use Rattle.measuring.specs.Measured.{EndsFor}
-use Rattle.measuring.specs.declared.measuring.LineEnds.{LineEnds}
+use Rattle.judging.specs.declared.judging.Placed.{Placed}
 use Rattle.page.proofs.Admitting.{admitted}
 use Rattle.page.specs.Acts.{Replies, clear, raised}
 use Rattle.page.specs.Law.{World, Written}
@@ -93,7 +92,7 @@ composed-cleared answered lights lights_prompt lights_hint release l s b m n byt
   hint = refl;
 }
 
-module _ {T H : Type 0} (w : World T H) (x y : State T H) (e : LineEnds) (r : Result Unit BrokenAct) (cleared : Cleared w e x r y) where
+module _ {T H : Type 0} (w : World T H) (x y : State T H) (e : Placed) (r : Result Unit BrokenAct) (cleared : Cleared w e x r y) where
   -- before the drawing nothing is on the screen
   abbrev wiped_state : State T H
   wiped_state = record { terminal = x.terminal; highlighter = x.highlighter; session = laid_at cleared.origin Torn x.session; tables = x.tables }
@@ -117,7 +116,7 @@ module _ {T H : Type 0} (w : World T H) (x y : State T H) (e : LineEnds) (r : Re
   pub cleared-layout : is_err r ≡ true → LaidAs 1 corner corner corner y.session.layout
   cleared-layout broken = subst (λ (l : Layout). LaidAs 1 corner corner corner l) (sym (redrawn-layout w wiped_state y (line_of x.tables.line) x.tables.line.pos e cleared.layout cleared.session x.tables cleared.tables r (refl, refl) refl cleared.prepares left cleared.paints.styles broken)) cleared.first
 
-  module _ (sound : Sound w.columns x.session x.tables) (judged : RefusesAct w.columns x.session x.tables (w.extent x.terminal) clear None) (ends : EndsFor w.columns x.session.size.cols ps (line_of x.tables.line) x.tables.line.pos e) where
+  module _ (sound : Sound w.columns x.session x.tables) (judged : RefusesAct w.columns x.session x.tables (w.extent x.terminal) clear None) (placed : PlacedFor w.columns x.session.size ps (line_of x.tables.line) x.tables.line.pos e) where
     low : Low d ps (line_of x.tables.line) []
     low = (admitted d ps (is_torn x.session.standing) ((w.extent x.terminal ≡ x.session.size) × (x.session.begun ≡ x.session.size)) clear (page_of x.session x.tables bare_view) (judged bare_view)).height
 
@@ -125,7 +124,7 @@ module _ {T H : Type 0} (w : World T H) (x y : State T H) (e : LineEnds) (r : Re
     wiped-sound = record { prompt = sound.prompt; stands = λ _. low }
 
     pub cleared-sound : Sound w.columns y.session y.tables
-    cleared-sound = redrawn-sound w wiped_state y (line_of x.tables.line) x.tables.line.pos e cleared.layout cleared.session x.tables cleared.tables r (refl, refl) refl cleared.prepares left cleared.paints.styles wiped-sound (line-good x.tables) (line-place x.tables.line) ends low
+    cleared-sound = redrawn-sound w wiped_state y (line_of x.tables.line) x.tables.line.pos e cleared.layout cleared.session x.tables cleared.tables r (refl, refl) refl cleared.prepares left cleared.paints.styles wiped-sound (line-good x.tables) (line-place x.tables.line) placed low
 
     module _ (v : View) where
       -- the page from the window's first row on
@@ -133,10 +132,10 @@ module _ {T H : Type 0} (w : World T H) (x y : State T H) (e : LineEnds) (r : Re
       page_blank = raised d ps (w.screen x.terminal).pen.paper (w.screen x.terminal).top (w.screen x.terminal).top (page_of x.session x.tables v)
 
       abbrev page : Page
-      page = page_next w wiped_state y (line_of x.tables.line) x.tables.line.pos e cleared.layout cleared.session x.tables cleared.tables r (refl, refl) refl cleared.prepares left cleared.paints.styles wiped-sound (line-good x.tables) (line-place x.tables.line) ends low page_blank
+      page = page_next w wiped_state y (line_of x.tables.line) x.tables.line.pos e cleared.layout cleared.session x.tables cleared.tables r (refl, refl) refl cleared.prepares left cleared.paints.styles wiped-sound (line-good x.tables) (line-place x.tables.line) placed low page_blank
 
       body_is : erase_layout cleared.session.layout ++ draw_layout cleared.paints.styles cleared.layout ≡ erase_bytes 0 0 ++ draw_page d ps answers page
-      body_is = redrawn-bytes w wiped_state y (line_of x.tables.line) x.tables.line.pos e cleared.layout cleared.session x.tables cleared.tables r (refl, refl) refl cleared.prepares left cleared.paints.styles wiped-sound (line-good x.tables) (line-place x.tables.line) ends low page_blank ∙ ap (λ (bs : List ℕ). bs ++ draw_page d ps answers page) (corner-erases cleared.origin cleared.first)
+      body_is = redrawn-bytes w wiped_state y (line_of x.tables.line) x.tables.line.pos e cleared.layout cleared.session x.tables cleared.tables r (refl, refl) refl cleared.prepares left cleared.paints.styles wiped-sound (line-good x.tables) (line-place x.tables.line) placed low page_blank ∙ ap (λ (bs : List ℕ). bs ++ draw_page d ps answers page) (corner-erases cleared.origin cleared.first)
 
       cleared-writes : Written w.answered x.terminal (writes d ps x.session.holds (is_torn x.session.standing) clear answers (page_of x.session x.tables v) page) r y.terminal
       cleared-writes =
@@ -144,10 +143,10 @@ module _ {T H : Type 0} (w : World T H) (x y : State T H) (e : LineEnds) (r : Re
           (subst (λ (h : Bool). Written w.answered x.terminal (cleared_by (is_torn x.session.standing && x.session.holds) h (erase_layout cleared.session.layout ++ draw_layout cleared.paints.styles cleared.layout)) r y.terminal) (redrawn-holds w wiped_state y (line_of x.tables.line) x.tables.line.pos e cleared.layout cleared.session x.tables cleared.tables r (refl, refl) refl cleared.prepares left cleared.paints.styles) cleared.paints.written)
 
       pub cleared-went : (u : View) × WentBuffered w (settings_of x.session x.tables) (moment_of x v) clear r (buffer_of x.tables) (buffer_of y.tables) (moment_of y u)
-      cleared-went = (record { upper = page_blank.upper; base = page_blank.base; window = page.window }, redrawn-went w wiped_state y (line_of x.tables.line) x.tables.line.pos e cleared.layout cleared.session x.tables cleared.tables r (refl, refl) refl cleared.prepares left cleared.paints.styles wiped-sound (line-good x.tables) (line-place x.tables.line) ends low cleared.paints.styled (buffer_of x.tables) (moment_of x v) clear page_blank refl refl refl (redrawn-heeds w wiped_state y (line_of x.tables.line) x.tables.line.pos e cleared.layout cleared.session x.tables cleared.tables r (refl, refl) refl cleared.prepares left cleared.paints.styles wiped-sound (line-good x.tables) (line-place x.tables.line) ends low page_blank) cleared-writes (cleared.paints.bytes ∙ body_is))
+      cleared-went = (record { upper = page_blank.upper; base = page_blank.base; window = page.window }, redrawn-went w wiped_state y (line_of x.tables.line) x.tables.line.pos e cleared.layout cleared.session x.tables cleared.tables r (refl, refl) refl cleared.prepares left cleared.paints.styles wiped-sound (line-good x.tables) (line-place x.tables.line) placed low cleared.paints.styled (buffer_of x.tables) (moment_of x v) clear page_blank refl refl refl (redrawn-heeds w wiped_state y (line_of x.tables.line) x.tables.line.pos e cleared.layout cleared.session x.tables cleared.tables r (refl, refl) refl cleared.prepares left cleared.paints.styles wiped-sound (line-good x.tables) (line-place x.tables.line) placed low page_blank) cleared-writes (cleared.paints.bytes ∙ body_is))
 
 -- a clear that was judged and drawn
-pub cleared-acted : {T H : Type 0} (w : World T H) (x y : State T H) (e : LineEnds) (r : Result Unit BrokenAct) → JudgesEnds w.columns x.session x.tables (w.extent x.terminal) clear (line_of x.tables.line) x.tables.line.pos (Ok e)
+pub cleared-acted : {T H : Type 0} (w : World T H) (x y : State T H) (e : Placed) (r : Result Unit BrokenAct) → JudgesEnds w.columns x.session x.tables (w.extent x.terminal) clear (line_of x.tables.line) x.tables.line.pos (Ok e)
     → Cleared w e x r y → Acted w x clear (outcome_of r) y
 cleared-acted w x y e r judges cleared =
     went-acted w x y clear r (cleared-settings w x y e r cleared)

@@ -1,13 +1,12 @@
 -- A create: the first step of a run.
 use Rattle.std.proofs.Common.{◌≡◌, ℕ, ◌<◌, ◌≤◌, false, List, [], ◌∷◌, ◌++◌, Some, Ok, Err, Result, sym, refl, ap, ◌∙◌, subst, inl, inr, ⊎_elim, append-nil, arith}
-use Rattle.judging.specs.Judgements.{Behind, JudgesLine, Low}
+use Rattle.judging.specs.Judgements.{Behind, JudgesLine, Low, PlacedFor}
 use Rattle.layout.specs.Laying.{LaidAs, corner}
 use Rattle.layout.specs.declared.block.Layout.{Layout}
 use Rattle.lines.specs.Lines.{line_of}
 use Rattle.lines.specs.Prompts.{raw_of, styled_of, visible_of}
 use Rattle.lines.specs.declared.prompt.Prompt.{Prompt}
-use Rattle.measuring.specs.Measured.{EndsFor}
-use Rattle.measuring.specs.declared.measuring.LineEnds.{LineEnds}
+use Rattle.judging.specs.declared.judging.Placed.{Placed}
 use Rattle.page.proofs.Needing.{needs-holds, nothing-some}
 use Rattle.page.proofs.Spelt.{good_none}
 use Rattle.page.specs.Acts.{Replies, create, started}
@@ -107,12 +106,12 @@ module _ {T H : Type 0} (w : World T H) (x : State T H) (setup : Setup) (b : Tab
         height = subst (λ (t : List ℕ). Needs (Low d ps t []) refusal.Tall NothingElse (Some e)) tabled.line.0 (judges ps behind).refuses
 
     -- the empty line is drawn
-    module _ (e : LineEnds) (judges : JudgesLine w.columns x.session.prompt x.session.size (line_of x.tables.line) x.tables.line.pos (Ok e)) (y : State T H) (r : Result Unit BrokenAct) (made : Refreshed w e x r y) where
+    module _ (e : Placed) (judges : JudgesLine w.columns x.session.prompt x.session.size (line_of x.tables.line) x.tables.line.pos (Ok e)) (y : State T H) (r : Result Unit BrokenAct) (made : Refreshed w e x r y) where
       low : Low d ps [] []
       low = subst (λ (t : List ℕ). Low d ps t []) tabled.line.0 (needs-holds (judges ps behind).refuses)
 
-      ends : EndsFor w.columns x.session.size.cols ps [] 0 e
-      ends = subst (λ (n : ℕ). EndsFor w.columns x.session.size.cols ps [] n e) tabled.line.1 (subst (λ (t : List ℕ). EndsFor w.columns x.session.size.cols ps t x.tables.line.pos e) tabled.line.0 (judges ps behind).tells)
+      placed : PlacedFor w.columns x.session.size ps [] 0 e
+      placed = subst (λ (n : ℕ). PlacedFor w.columns x.session.size ps [] n e) tabled.line.1 (subst (λ (t : List ℕ). PlacedFor w.columns x.session.size ps t x.tables.line.pos e) tabled.line.0 (judges ps behind).tells)
 
       sound : Sound w.columns x.session x.tables
       sound = record { prompt = behind; stands = λ _. subst (λ (k : Standing). Stands d x.tables x.session.layout k) (sym fresh.standing) (subst (λ (t : List ℕ). Low d ps t []) (sym tabled.line.0) low) }
@@ -124,24 +123,24 @@ module _ {T H : Type 0} (w : World T H) (x : State T H) (setup : Setup) (b : Tab
       page_first = started d ps (w.screen x.terminal)
 
       abbrev page : Page
-      page = page_next w x y [] 0 e made.layout made.session x.tables made.tables r tabled.line refl made.prepares (painted-left made.paints) made.paints.drew.styles sound good_none (omega arith, IsUtf8-nil) ends low page_first
+      page = page_next w x y [] 0 e made.layout made.session x.tables made.tables r tabled.line refl made.prepares (painted-left made.paints) made.paints.drew.styles sound good_none (omega arith, IsUtf8-nil) placed low page_first
 
       first-writes : Written w.answered x.terminal (first_page d ps x.session.holds answers page) r y.terminal
       first-writes =
           subst (λ (bs : List ℕ). Written w.answered x.terminal (framed x.session.holds ((bs ++ draw_page d ps answers page) ∷ [])) r y.terminal) (corner-erases x.session.layout fresh.layout)
-          (redrawn-written w x y [] 0 e made.layout made.session x.tables made.tables r tabled.line refl made.prepares (painted-left made.paints) made.paints.drew.styles sound good_none (omega arith, IsUtf8-nil) ends low made.paints.drew.written page_first)
+          (redrawn-written w x y [] 0 e made.layout made.session x.tables made.tables r tabled.line refl made.prepares (painted-left made.paints) made.paints.drew.styles sound good_none (omega arith, IsUtf8-nil) placed low made.paints.drew.written page_first)
 
       first-bytes : buffer_of y.tables ≡ drawing d ps answers page
       first-bytes =
           made.paints.drew.bytes
-          ∙ redrawn-bytes w x y [] 0 e made.layout made.session x.tables made.tables r tabled.line refl made.prepares (painted-left made.paints) made.paints.drew.styles sound good_none (omega arith, IsUtf8-nil) ends low page_first
+          ∙ redrawn-bytes w x y [] 0 e made.layout made.session x.tables made.tables r tabled.line refl made.prepares (painted-left made.paints) made.paints.drew.styles sound good_none (omega arith, IsUtf8-nil) placed low page_first
           ∙ ap (λ (bs : List ℕ). bs ++ draw_page d ps answers page) (corner-erases x.session.layout fresh.layout)
 
       abbrev view : View
       view = record { upper = page_first.upper; base = page_first.base; window = page.window }
 
       went : WentBuffered w z start create r (buffer_of b) (buffer_of y.tables) (moment_of y view)
-      went = redrawn-went w x y [] 0 e made.layout made.session x.tables made.tables r tabled.line refl made.prepares (painted-left made.paints) made.paints.drew.styles sound good_none (omega arith, IsUtf8-nil) ends low made.paints.drew.styled (buffer_of b) start create page_first refl refl refl (redrawn-heeds w x y [] 0 e made.layout made.session x.tables made.tables r tabled.line refl made.prepares (painted-left made.paints) made.paints.drew.styles sound good_none (omega arith, IsUtf8-nil) ends low page_first) first-writes first-bytes
+      went = redrawn-went w x y [] 0 e made.layout made.session x.tables made.tables r tabled.line refl made.prepares (painted-left made.paints) made.paints.drew.styles sound good_none (omega arith, IsUtf8-nil) placed low made.paints.drew.styled (buffer_of b) start create page_first refl refl refl (redrawn-heeds w x y [] 0 e made.layout made.session x.tables made.tables r tabled.line refl made.prepares (painted-left made.paints) made.paints.drew.styles sound good_none (omega arith, IsUtf8-nil) placed low page_first) first-writes first-bytes
 
       pub drawn-created : (o : Outcome) → o ≡ outcome_of r → Created w setup x.terminal x.highlighter (buffer_of b) o y
       drawn-created o is = subst (λ (q : Outcome). Created w setup x.terminal x.highlighter (buffer_of b) q y) (sym is) (record {
@@ -150,6 +149,6 @@ module _ {T H : Type 0} (w : World T H) (x : State T H) (setup : Setup) (b : Tab
         layout = λ broken. subst (λ (l : Layout). LaidAs 1 corner corner corner l)
             (sym (redrawn-layout w x y [] 0 e made.layout made.session x.tables made.tables r tabled.line refl made.prepares (painted-left made.paints) made.paints.drew.styles (outcome-err r broken)))
             fresh.layout;
-        sound = redrawn-sound w x y [] 0 e made.layout made.session x.tables made.tables r tabled.line refl made.prepares (painted-left made.paints) made.paints.drew.styles sound good_none (omega arith, IsUtf8-nil) ends low;
+        sound = redrawn-sound w x y [] 0 e made.layout made.session x.tables made.tables r tabled.line refl made.prepares (painted-left made.paints) made.paints.drew.styles sound good_none (omega arith, IsUtf8-nil) placed low;
         steps = (view, subst (λ (q : Settings). Buffered w q start create (outcome_of r) (moment_of y view) (buffer_of b) (buffer_of y.tables)) settings-are (stepped-went w z start (moment_of y view) create r (buffer_of b) (buffer_of y.tables) (inr (refl, inr (size-fine, inr (tt, inr (tt, inr (tt, inr (low, refl))))))) went));
       })

@@ -1,6 +1,5 @@
 -- The cursor at another edit position: places and layouts, and from what was judged, asked and written to the act.
 use Rattle.std.proofs.Common.{◌≡◌, ℕ, ◌+◌, ◌<◌, ◌≤◌, Bool, true, false, cond, eqb, leb, List, [], ◌++◌, length, take, drop, IfSome, Some, None, Ok, Err, Option, sym, refl, ap, ◌∙◌, subst, inl, inr, le_trans, arith, length-append}
-use Rattle.judging.specs.Fitting.{LaysLine}
 use Rattle.judging.specs.Judgements.{Behind, JudgesLine, Low}
 use Rattle.layout.proofs.GoodTexts.{walk_place-append}
 use Rattle.layout.specs.Drawing.{walk_place}
@@ -14,7 +13,7 @@ use Rattle.lines.specs.Lines.{line_of}
 use Rattle.lines.specs.declared.line_buffer.LineBuffer.{LineBuffer}
 use Rattle.measuring.proofs.Reaching.{some-none, some_same}
 use Rattle.measuring.specs.Measured.{Walks}
-use Rattle.measuring.specs.declared.measuring.LineEnds.{LineEnds}
+use Rattle.judging.specs.declared.judging.Placed.{Placed}
 use Rattle.page.proofs.Needing.{nothing-some}
 use Rattle.page.proofs.Spelt.{good-cut, good-decodes}
 use Rattle.page.specs.Rules.{Needs, NothingElse}
@@ -100,8 +99,8 @@ module _ (w : ℕ → ℕ) (narrow : (c : ℕ) → w c ≤ 2) (p : Position) (z 
 
 -- the line alone, measured and laid out
 module _ (w : ℕ → ℕ) (p : Position) (z : Size) (b : LineBuffer) where
-  pub alone-laid : (e : LineEnds) (l : Layout) → JudgesLine w p z (line_of b) b.pos (Ok e) → LaysLine w p z e l → LaysBare w p z b l
-  alone-laid e l judged laid ps at low = laid ps (line_of b) b.pos (record { behind = at; text = buffers.line-good b; place = line-place b; ends = (judged ps at).tells; low = low })
+  pub alone-laid : (e : Placed) → JudgesLine w p z (line_of b) b.pos (Ok e) → LaysBare w p z b e.layout
+  alone-laid e judged ps at low = (judged ps at).tells.laid
 
   pub alone-refused : (e : Refusal) (l : Layout) → JudgesLine w p z (line_of b) b.pos (Err e) → LaysBare w p z b l
   alone-refused e l judged ps at low = absurd (by (judged ps at).refuses)

@@ -1,20 +1,16 @@
 -- Insert: drawn anew, or the character written by itself.
-use Rattle.std.proofs.Common.{◌≡◌, ℕ, ◌+◌, ◌*◌, ◌≤◌, Bool, true, false, not, ◌&&◌, ◌||◌, eqb, ltb, List, [], ◌∷◌, ◌++◌, length, is_some, Some, None, Ok, Option, Result, sym, refl, ap, ◌∙◌, subst, inr, arith}
+use Rattle.std.proofs.Common.{◌≡◌, ℕ, ◌+◌, ◌*◌, Bool, true, false, not, ◌&&◌, ◌||◌, eqb, ltb, List, [], ◌∷◌, ◌++◌, length, is_some, Some, Ok, Result, sym, refl, ap, ◌∙◌, subst, inr, append-nil}
 use Rattle.session.specs.Styling.{StyledTexts}
 use borrow.Author.Tests.{clash}
 use lib.Utf8.{encode}
 use Rattle.judging.specs.Judgements.{inserted}
-use Rattle.layout.specs.Drawing.{walk_place}
-use Rattle.layout.specs.declared.layout.Position.{Position}
 use Rattle.layout.specs.declared.block.Layout.{Layout}
 use Rattle.lines.proofs.Buffers.{line-place}
 use Rattle.lines.proofs.Rules.{insert-once}
 use Rattle.lines.specs.Lines.{Holds, InsertRule, line_of}
 use Rattle.lines.specs.Notes.{note_of}
 use Rattle.lines.specs.declared.line_buffer.LineBuffer.{LineBuffer}
-use Rattle.measuring.proofs.Reaching.{some-none, some_same}
-use Rattle.measuring.specs.Measured.{Walks}
-use Rattle.measuring.specs.declared.measuring.LineEnds.{LineEnds}
+use Rattle.judging.specs.declared.judging.Placed.{Placed}
 use Rattle.page.proofs.Admitting.{Admitted, admitted}
 use Rattle.page.proofs.Inserting.{brought}
 use Rattle.page.proofs.Spelt.{insert-boundary, insert-good, one-good}
@@ -22,11 +18,10 @@ use Rattle.page.specs.Acts.{Replies, edited, hinted, insert}
 use Rattle.page.specs.Law.{Moment, World, Written}
 use Rattle.page.specs.Output.{direct, framed, redraw}
 use Rattle.page.specs.Page.{Page}
-use Rattle.page.specs.Rules.{AtBoundary, OneCharacter, Outcome}
+use Rattle.page.specs.Rules.{AtBoundary, Outcome}
 use Rattle.page.specs.declared.outcome.BrokenAct.{BrokenAct}
 use Rattle.render.specs.Composing.{composed}
 use Rattle.render.specs.Drawing.{Styles, draw_layout, old_rows, texts_of}
-use Rattle.screen.specs.Places.{top_left}
 use Rattle.screen.specs.Screen.{Geometry}
 use Rattle.session.proofs.Acting.{WentBuffered, went-acted}
 use Rattle.session.proofs.Anew.{with_line}
@@ -41,35 +36,23 @@ use Rattle.session.specs.Sessions.{Shown, Sound, State, View, is_torn, moment_of
 use Rattle.session.specs.Typing.{ColumnsOf, in_row}
 use Rattle.session.specs.declared.session.Session.{Session}
 use Rattle.session.specs.declared.tables.Tables.{Tables}
-use Rattle.std.proofs.lemmas.Bool.{cond_both, cond-false, cond-true, eqb-true}
-use Rattle.std.proofs.lemmas.Str.{length-encode, len_utf8_bounds}
-use Rattle.std.specs.Str.{chars}
+use Rattle.std.proofs.lemmas.Bool.{cond-false, cond-true}
 use Rattle.terminal.specs.Windows.{geometry}
-use Rattle.text.specs.Characters.{is_control}
+use Rattle.text.proofs.Decodes.{front_same}
+use Rattle.text.specs.Decoding.{Front, NoCharacter}
+use Rattle.text.specs.declared.decode.Decoded.{Decoded}
 use Rattle.text.specs.Texts.{GoodText}
 use Rattle.text.specs.declared.refusal.Refusal.{Refusal}
 
--- the columns of a character, by where it ends from a row's start
-module _ (w : ℕ → ℕ) (narrow : (c : ℕ) → w c ≤ 2) (controls : (c : ℕ) → is_control c ≡ true → w c ≡ 0) (text : List ℕ) (r : Option Position) (h : Walks w 2 top_left text r) where
-  short : (c : ℕ) → encode c ≡ text → length text ≤ 4
-  short c e = subst (λ (x : List ℕ). length x ≤ 4) e (let k = len_utf8_bounds c in subst (λ n. n ≤ 4) (sym (length-encode c)) k.1)
+-- the columns of the character that was found
+pub columns-found : (w : ℕ → ℕ) (text : List ℕ) (d : Decoded) → Front text d → ColumnsOf w text (w d.code)
+columns-found w text d found one =
+    let k = brought w text one in
+    ap w (front_same text [] k.char d found (sym k.bytes ∙ sym (append-nil (encode k.char)))).0 ∙ sym k.width
 
-  one-col : (c : ℕ) → (walk_place 2 w (c ∷ []) top_left).col ≡ w c
-  one-col c =
-      cond_both (eqb c 10) _ _ (λ (p : Position). p.col ≡ w c)
-      (λ e. sym (ap w (eqb-true c 10 e) ∙ controls 10 refl))
-      (λ _. cond_both (ltb 2 (0 + w c)) _ _ (λ (p : Position). p.col ≡ w c) (λ _. refl) (λ _. omega arith))
-
-  ends_at : (one : OneCharacter text) → r ≡ Some (walk_place 2 w (chars text) top_left)
-  ends_at one = let s = short one.0 one.2 in h.reached (omega arith) (one-good text one) (omega arith)
-
-  pub columns-some : (p : Position) → r ≡ Some p → ColumnsOf w text p.col
-  columns-some p e one =
-      let k = brought w text one in
-      ap (λ (q : Position). q.col) (some_same (sym e ∙ ends_at one)) ∙ ap (λ (cs : List ℕ). (walk_place 2 w cs top_left).col) k.chars ∙ one-col k.char ∙ sym k.width
-
-  pub columns-none : r ≡ None → ColumnsOf w text 0
-  columns-none e one = absurd (some-none (sym e ∙ ends_at one))
+-- and there is one
+pub columns-none : (w : ℕ → ℕ) (text : List ℕ) → NoCharacter text → ColumnsOf w text 0
+columns-none w text none one = let k = brought w text one in absurd (none k.char [] k.good.0 (sym k.bytes ∙ sym (append-nil (encode k.char))))
 
 -- seven conditions in two groups
 and-groups : (a b c d e f : Bool) → ((a && (b && (c && (d && e)))) && f) ≡ (a && (b && (c && (d && (e && f)))))
@@ -79,7 +62,7 @@ and-groups true true false d e f = refl
 and-groups true false c d e f = refl
 and-groups false b c d e f = refl
 
-module _ {T H : Type 0} (w : World T H) (x y : State T H) (text : List ℕ) (n : ℕ) (e : LineEnds) (judged : JudgesEnds w.columns x.session x.tables (w.extent x.terminal) (insert text n) (inserted (line_of x.tables.line) x.tables.line.pos text n) (x.tables.line.pos + n * length text) (Ok e)) where
+module _ {T H : Type 0} (w : World T H) (x y : State T H) (text : List ℕ) (n : ℕ) (e : Placed) (judged : JudgesEnds w.columns x.session x.tables (w.extent x.terminal) (insert text n) (inserted (line_of x.tables.line) x.tables.line.pos text n) (x.tables.line.pos + n * length text) (Ok e)) where
   abbrev d : Geometry
   d = geometry w.columns x.session.size
 

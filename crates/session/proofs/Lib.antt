@@ -5,6 +5,7 @@ pub mod Redrawing
 pub mod Preparing
 pub mod Heights
 pub mod Locating
+pub mod Typing
 pub mod Acting
 pub mod Checking
 pub mod Tabling

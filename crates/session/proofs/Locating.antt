@@ -1,8 +1,9 @@
 -- Where the line ends by the layout, and judgements that rest on it.
-use Rattle.std.proofs.Common.{◌≡◌, ℕ, zero, suc, ◌+◌, ◌-◌, ◌*◌, ◌<◌, ◌≤◌, Bool, true, false, cond, eqb, List, [], ◌∷◌, ◌++◌, length, take, drop, Some, None, Ok, Err, Option, Result, IfSome, sym, refl, ap, ◌∙◌, subst, inr, inl, append-nil, le_refl, arith, length-append}
+use Rattle.std.proofs.Common.{◌≡◌, ℕ, ◌+◌, ◌-◌, ◌*◌, ◌<◌, ◌≤◌, Bool, true, false, cond, eqb, List, [], ◌∷◌, ◌++◌, length, take, drop, Some, None, Ok, Err, Option, Result, IfSome, sym, ap, ◌∙◌, subst, inr, append-nil, arith, length-append}
 use lib.Utf8.{encode, encodes}
 use Rattle.judging.proofs.Judgements.{holds, holds_not, judges-insert}
-use Rattle.judging.specs.Judgements.{Judged, JudgesInsert, JudgesLine, Low, Tells, inserted}
+use Rattle.judging.specs.Judgements.{JudgesInsert, JudgesLine, inserted}
+use Rattle.judging.specs.declared.judging.Placed.{Placed}
 use Rattle.layout.proofs.GoodTexts.{walk_place-append}
 use Rattle.layout.specs.Drawing.{step_place, walk_place}
 use Rattle.layout.specs.Measuring.{at_end, next_row}
@@ -15,18 +16,16 @@ use Rattle.lines.specs.Notices.{NoticeRule}
 use Rattle.measuring.proofs.Fitting.{fills, place_is}
 use Rattle.measuring.proofs.Lining.{insert-no-rest, insert-no-text, inserts}
 use Rattle.measuring.proofs.Walking.{some-bytes, step-row}
-use Rattle.measuring.specs.Measured.{Computes, EndsFor, Repeats, Walks}
+use Rattle.measuring.specs.Measured.{Computes, Repeats, Walks}
 use Rattle.measuring.specs.declared.measuring.LineEnds.{LineEnds}
 use Rattle.page.proofs.Needing.{needs-map, needs-none}
 use Rattle.page.proofs.Spelt.{good-cut, good-decodes}
 use Rattle.page.specs.Acts.{clear, insert, notice, refresh}
-use Rattle.page.specs.Page.{note_text}
-use Rattle.page.specs.Rules.{refused_by}
 use Rattle.screen.specs.Places.{top_left}
 use Rattle.session.proofs.Heights.{line-good}
 use Rattle.session.specs.Admitting.{Admits}
 use Rattle.session.specs.Judging.{JudgesEnds}
-use Rattle.session.specs.Locating.{Fronts, JudgesHeight, JudgesPut, Knows, Stood, text_end}
+use Rattle.session.specs.Locating.{Fronts, JudgesHeight, JudgesPut, JudgesWalked, Knows, Stood, placed_at, text_end}
 use Rattle.session.specs.Sessions.{Shown, Sound, Stands, prompt_of}
 use Rattle.session.specs.declared.session.Session.{Session}
 use Rattle.session.specs.declared.standing.Standing.{Standing}
@@ -83,7 +82,7 @@ module _ (w : ℕ → ℕ) (narrow : (c : ℕ) → w c ≤ 2) (s : Session) (b :
   cut = good-cut ln b.line.pos (line-good b) (line-place b.line)
 
   module _ (stands : s.standing ≡ standing.Open) (bare : note_of b.note ≡ None) (begun : s.begun ≡ s.size) (sound : Sound w s b) where
-    shown : Shown (geometry w s.size) ps ln b.line.pos None (note_of b.hint) s.layout
+    pub shown : Shown (geometry w s.size) ps ln b.line.pos None (note_of b.hint) s.layout
     shown =
         subst (λ (o : Option (List ℕ)). Shown (geometry w s.size) ps ln b.line.pos o (note_of b.hint) s.layout) bare
         (subst (λ (st : Standing). Stands (geometry w s.size) b s.layout st) stands (sound.stands begun))
@@ -112,27 +111,33 @@ module _ (w : ℕ → ℕ) (narrow : (c : ℕ) → w c ≤ 2) (s : Session) (b :
         cond_both s.layout.full _ _ (λ (p : Position). p.row ≤ 5000) (λ _. omega arith) (λ _. omega arith)
 
     -- at the end of the line
-    pub known-end : b.line.pos ≡ length ln → Stood w s b (record { cursor = text_end s.size.cols s.layout; end = text_end s.size.cols s.layout })
+    pub known-end : b.line.pos ≡ length ln → Stood w s b (placed_at (text_end s.size.cols s.layout) (text_end s.size.cols s.layout) s)
     known-end e = (
       shown.line,
       record {
-        cursor = whole ∙ ap (λ (x : List ℕ). walk_place s.size.cols w (ps ++ chars x) top_left) (sym (ap (λ k. take k ln) e ∙ take-length ln));
-        end = whole;
-        low = low-end;
+        ends = record {
+          cursor = whole ∙ ap (λ (x : List ℕ). walk_place s.size.cols w (ps ++ chars x) top_left) (sym (ap (λ k. take k ln) e ∙ take-length ln));
+          end = whole;
+          low = low-end;
+        };
+        laid = shown.laid;
       },
     )
 
     -- behind a column
-    pub known-within : (c : Position) → c ≡ s.layout.cursor → 0 < c.col → Stood w s b (record { cursor = c; end = text_end s.size.cols s.layout })
+    pub known-within : (c : Position) → c ≡ s.layout.cursor → 0 < c.col → Stood w s b (placed_at c (text_end s.size.cols s.layout) s)
     known-within c is some =
         let fs = ps ++ chars (take b.line.pos ln) in
         let p = walk_place s.size.cols w fs top_left in
         let good = all-good-append ps (chars (take b.line.pos ln)) sound.prompt.good (good-decodes (take b.line.pos ln) cut.0) in (
           shown.line,
           record {
-            cursor = sym (apart (eqb p.col s.size.cols) p (next_row p) c (place_is w narrow s.size p fs good (λ i. p) ∙ sym shown.laid.cursor ∙ sym is) (λ i. 0) some);
-            end = whole;
-            low = low-end;
+            ends = record {
+              cursor = sym (apart (eqb p.col s.size.cols) p (next_row p) c (place_is w narrow s.size p fs good (λ i. p) ∙ sym shown.laid.cursor ∙ sym is) (λ i. 0) some);
+              end = whole;
+              low = low-end;
+            };
+            laid = shown.laid;
           },
         )
 
@@ -171,22 +176,22 @@ module _ (w : ℕ → ℕ) (narrow : (c : ℕ) → w c ≤ 2) (s : Session) (b :
           judges-insert w s.prompt s.size b.line ln t b.line.pos n s.size.cols (Some ends) (Err Tall) rule (λ i. ln) (λ i. b.line.pos) (λ i. s.size.cols)
           (inserts w s.size.cols s.prompt ln b.line.pos t n front a e (front-walks front sound is) m (rest-walks a rest (Some e) same l)) (holds_not w s.prompt s.size (Some ends) ends (λ i. Some ends) none)
 
-      pub put-held : (k : Layout) → Computes w s.size s.prompt ends None (Some k) → JudgesPut w s b front t n (Ok ends)
+      pub put-held : (k : Layout) → Computes w s.size s.prompt ends None (Some k) → JudgesPut w s b front t n (Ok (record { ends = ends; layout = k }))
       put-held k laid sound is =
-          judges-insert w s.prompt s.size b.line ln t b.line.pos n s.size.cols (Some ends) (Ok ends) rule (λ i. ln) (λ i. b.line.pos) (λ i. s.size.cols)
+          judges-insert w s.prompt s.size b.line ln t b.line.pos n s.size.cols (Some ends) (Ok (record { ends = ends; layout = k })) rule (λ i. ln) (λ i. b.line.pos) (λ i. s.size.cols)
           (inserts w s.size.cols s.prompt ln b.line.pos t n front a e (front-walks front sound is) m (rest-walks a rest (Some e) same l)) (holds w s.prompt s.size (Some ends) ends k (λ i. Some ends) laid)
 
 -- the line judged by its height
 module _ (w : ℕ → ℕ) (s : Session) (b : Tables) where
-  pub height-known : (e : LineEnds) (o : Option LineEnds) → o ≡ Some e → Knows w s b o → JudgesHeight w s b (Ok e)
+  pub height-known : (e : Placed) (o : Option Placed) → o ≡ Some e → Knows w s b o → JudgesHeight w s b (Ok e)
   height-known e o is knows begun sound =
-      let h : Stood w s b e = subst (λ (x : Option LineEnds). IfSome x (Stood w s b)) is (knows begun sound) in
+      let h : Stood w s b e = subst (λ (x : Option Placed). IfSome x (Stood w s b)) is (knows begun sound) in
       record { refuses = inr (h.0, λ i. None); tells = h.1 }
 
-  pub height-measured : (r : Result LineEnds Refusal) → JudgesLine w s.prompt s.size (line_of b.line) b.line.pos r → JudgesHeight w s b r
+  pub height-measured : (r : Result Placed Refusal) → JudgesLine w s.prompt s.size (line_of b.line) b.line.pos r → JudgesHeight w s b r
   height-measured r judged begun sound = judged (prompt_of b) sound.prompt
 
-  module _ (extent : Size) (r : Result LineEnds Refusal) (judged : JudgesHeight w s b r) where
+  module _ (extent : Size) (r : Result Placed Refusal) (judged : JudgesHeight w s b r) where
     pub refresh-judged : Admits s extent false None → JudgesEnds w s b extent refresh (line_of b.line) b.line.pos r
     refresh-judged admits =
         let a = needs-none admits in
@@ -215,18 +220,21 @@ module _ (w : ℕ → ℕ) (s : Session) (b : Tables) where
           tells = λ sound. (judged z.0.1 sound).tells;
         }
 
-  -- a character put in, judged by its needs
-  module _ (extent : Size) (t : List ℕ) (n : ℕ) (r : Result LineEnds Refusal) (admits : Admits s extent false None) where
-    pub insert-judged : (Sound w s b → JudgesInsert w s.prompt s.size (line_of b.line) b.line.pos t n r) → JudgesEnds w s b extent (insert t n) (inserted (line_of b.line) b.line.pos t n) (b.line.pos + n * length t) r
-    insert-judged judged =
+  -- a character put in, by what the layout tells, or measured behind the prompt
+  module _ (t : List ℕ) (n : ℕ) (r : Result Placed Refusal) where
+    pub walked-known : (e : Placed) (o : Option Placed) → o ≡ Some e → Knows w s b o → JudgesPut w s b e.ends.cursor t n r → JudgesWalked w s b t n r
+    walked-known e o is knows put begun sound =
+        put sound (subst (λ (x : Option Placed). IfSome x (Stood w s b)) is (knows begun sound)).1.ends.cursor (prompt_of b) sound.prompt
+
+    pub walked-measured : JudgesInsert w s.prompt s.size (line_of b.line) b.line.pos t n r → JudgesWalked w s b t n r
+    walked-measured judged begun sound = judged (prompt_of b) sound.prompt
+
+    -- and judged by its needs
+    pub insert-judged : (extent : Size) → Admits s extent false None → JudgesWalked w s b t n r → JudgesEnds w s b extent (insert t n) (inserted (line_of b.line) b.line.pos t n) (b.line.pos + n * length t) r
+    insert-judged extent admits judged =
         let a = needs-none admits in
         let z = needs-none a.1 in
         record {
-          refuses = λ sound v. inr (a.0, inr (z.0, needs-map (needs-map (λ h. inr (tt, h))) (judged sound (prompt_of b) sound.prompt).refuses));
-          tells = λ sound. (judged sound (prompt_of b) sound.prompt).tells;
+          refuses = λ sound v. inr (a.0, inr (z.0, needs-map (needs-map (λ h. inr (tt, h))) (judged z.0.1 sound).refuses));
+          tells = λ sound. (judged z.0.1 sound).tells;
         }
-
-    pub insert-known : (e : LineEnds) (o : Option LineEnds) → o ≡ Some e → Knows w s b o → JudgesPut w s b e.cursor t n r → JudgesEnds w s b extent (insert t n) (inserted (line_of b.line) b.line.pos t n) (b.line.pos + n * length t) r
-    insert-known e o is knows put =
-        insert-judged
-        (λ sound. put sound (subst (λ (x : Option LineEnds). IfSome x (Stood w s b)) is (knows (needs-none (needs-none admits).1).0.1 sound)).1.cursor)

@@ -14,7 +14,7 @@ use Rattle.lines.specs.declared.line_buffer.LineBuffer.{LineBuffer}
 use Rattle.lines.specs.declared.note.Note.{Note}
 use Rattle.lines.specs.declared.prompt.Prompt.{Prompt}
 use Rattle.measuring.specs.Measured.{Computes}
-use Rattle.measuring.specs.declared.measuring.LineEnds.{LineEnds}
+use Rattle.judging.specs.declared.judging.Placed.{Placed}
 use Rattle.page.proofs.Admitting.{Admitted, admitted, some-none}
 use Rattle.page.proofs.Spelt.{good_none}
 use Rattle.page.specs.Acts.{Replies, noted, notice, printed, settled}
@@ -43,23 +43,18 @@ use Rattle.session.specs.Styling.{StyledTexts}
 use Rattle.session.specs.declared.session.Session.{Session}
 use Rattle.session.specs.declared.tables.Tables.{Tables}
 use Rattle.std.proofs.lemmas.Bool.{false≢true}
+use Rattle.std.specs.Option.{unwrap_or}
 use Rattle.terminal.specs.Windows.{geometry}
 use Rattle.terminal.specs.declared.size.Size.{Size}
 use Rattle.terminal.specs.Answers.{WriteAnswer}
 
 -- a stored note that the window holds has a layout
-module _ (w : ℕ → ℕ) (p : Position) (z : Size) (e : LineEnds) (n : Note) (copy : Option (List ℕ)) (same : copy ≡ note_of n) (l : Layout) where
-  pub lays-note : Computes w z p e copy (Some l) → LaysNote w p z e (note_of n) l
-  lays-note laid = subst (λ (o : Option (List ℕ)). LaysNote w p z e o l) same held
-    where
-      held : LaysNote w p z e copy l
-      held ps line pos s low = (laid ps line pos s.behind.good s.behind.prompt s.text s.place s.ends (stored-fine n copy (sym same))).1
-
-  pub lays-always : Computes w z p e copy None → LaysNote w p z e (note_of n) l
-  lays-always none = subst (λ (o : Option (List ℕ)). LaysNote w p z e o l) same never
-    where
-      never : LaysNote w p z e copy l
-      never ps line pos s low = absurd (let high = none ps line pos s.behind.good s.behind.prompt s.text s.place s.ends (stored-fine n copy (sym same)) in omega arith)
+pub lays-hinted : (w : ℕ → ℕ) (p : Position) (z : Size) (e : Placed) (n : Note) (text : List ℕ) → Some text ≡ note_of n → (none : Layout) (o : Option Layout) → Computes w z p e.ends (Some text) o → LaysNote w p z e (note_of n) (unwrap_or o none)
+lays-hinted w p z e n text same none o laid = subst (λ (k : Option (List ℕ)). LaysNote w p z e k (unwrap_or o none)) same (by o laid)
+  where
+    by : (o : Option Layout) → Computes w z p e.ends (Some text) o → LaysNote w p z e (Some text) (unwrap_or o none)
+    by (Some l) laid ps line pos s low = (laid ps line pos s.behind.good s.behind.prompt s.text s.place s.placed.ends (stored-fine n (Some text) (sym same))).1
+    by None laid ps line pos s low = absurd (let high = laid ps line pos s.behind.good s.behind.prompt s.text s.place s.placed.ends (stored-fine n (Some text) (sym same)) in omega arith)
 
 -- a drawing over no layout leaves what a notice does
 pub drawn-noticed : (l o : Layout) (s : Session) (r : Result Unit BrokenAct) → drawn_to l (laid_at o s.standing s) r ≡ noticed_to l o s r
@@ -91,7 +86,7 @@ noticed-settings : (l o : Layout) (s : Session) (b : Tables) (r : Result Unit Br
 noticed-settings l o s b (Ok u) = refl
 noticed-settings l o s b (Err e) = refl
 
-module _ {T H : Type 0} (w : World T H) (x : State T H) (text : List ℕ) (e : LineEnds) (l : Layout) (r : Result Unit BrokenAct) (t : T) (n : Session) (c : Tables)
+module _ {T H : Type 0} (w : World T H) (x : State T H) (text : List ℕ) (e : Placed) (l : Layout) (r : Result Unit BrokenAct) (t : T) (n : Session) (c : Tables)
     (judged : JudgesEnds w.columns x.session x.tables (w.extent x.terminal) (notice text) (line_of x.tables.line) x.tables.line.pos (Ok e))
     (lays : LaysNote w.columns x.session.prompt x.session.size e (note_of x.tables.hint) l)
     (went : Noticed w.answered (w.lights x.highlighter) (w.lights_prompt x.highlighter) (w.lights_hint x.highlighter) l text x.session x.tables x.terminal r n c t) where
@@ -150,7 +145,7 @@ module _ {T H : Type 0} (w : World T H) (x : State T H) (text : List ℕ) (e : L
     was-shown = open-shown w.columns s.size ps b s.layout s.standing (sound.stands (admits no_view).size.1) (not-torn (is_torn s.standing) (admits no_view).untorn) (λ tall. tall-never w.columns s.size ps ln [] (line-good b) good_none tall low)
 
     laid : LaidOut d ps ln b.line.pos hint l
-    laid = lays ps ln b.line.pos (record { behind = sound.prompt; text = line-good b; place = line-place b.line; ends = judged.tells sound; low = low }) was-shown.hint
+    laid = lays ps ln b.line.pos (record { behind = sound.prompt; text = line-good b; place = line-place b.line; placed = judged.tells sound; low = low }) was-shown.hint
 
     -- the session still belongs to its tables
     sound-still : Sound w.columns n c

@@ -6,7 +6,7 @@ use Rattle.layout.specs.declared.block.Layout.{Layout}
 use Rattle.lines.specs.Lines.{line_of}
 use Rattle.lines.specs.Notes.{note_of}
 use Rattle.lines.specs.declared.note.Note.{Note}
-use Rattle.measuring.specs.declared.measuring.LineEnds.{LineEnds}
+use Rattle.judging.specs.declared.judging.Placed.{Placed}
 use Rattle.page.specs.Law.{World}
 use Rattle.session.specs.Asking.{Asked}
 use Rattle.session.specs.Preparing.{Prepared}
@@ -14,7 +14,7 @@ use Rattle.session.specs.declared.session.Session.{Session}
 use Rattle.session.specs.declared.tables.Tables.{Tables}
 
 -- a hint filled in for the line, then fitted and copied
-pub prepared : {T H : Type 0} (w : World T H) (e : LineEnds) (h : H) (s : Session) (b : Tables) (l : Layout) (t : Session) (k : H) (filled hint note : Note) (line : List ℕ) (pos : ℕ) (anew : Bool)
+pub prepared : {T H : Type 0} (w : World T H) (e : Placed) (h : H) (s : Session) (b : Tables) (l : Layout) (t : Session) (k : H) (filled hint note : Note) (line : List ℕ) (pos : ℕ) (anew : Bool)
     → line ≡ line_of b.line → pos ≡ b.line.pos → note_of filled ≡ w.hints line pos
     → FitsHint w.columns s.prompt s.size e (note_of filled) l (note_of hint)
     → note_of note ≡ note_of hint → Asked w.heeds_other h b.line s anew t k

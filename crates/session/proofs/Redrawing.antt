@@ -1,7 +1,7 @@
 -- A line drawn anew with the hinter's answer: the page that follows, and what the session then holds.
 use Rattle.std.proofs.Common.{◌≡◌, ℕ, ◌-◌, ◌<◌, Bool, true, false, cond, not, ◌&&◌, List, [], ◌∷◌, ◌++◌, is_ok, is_err, Some, None, Ok, Err, Option, Result, sym, refl, ap, ◌∙◌, subst, arith}
 use Rattle.judging.specs.Fitting.{Fits, LaidOut}
-use Rattle.judging.specs.Judgements.{Behind, Low}
+use Rattle.judging.specs.Judgements.{Behind, Low, PlacedFor}
 use Rattle.layout.specs.Laying.{LaidAs, corner}
 use Rattle.layout.specs.declared.block.Layout.{Layout}
 use Rattle.lines.specs.Lines.{Holds, line_of}
@@ -9,8 +9,8 @@ use Rattle.lines.specs.Notes.{note_of}
 use Rattle.lines.specs.Prompts.{raw_of, styled_of}
 use Rattle.lines.specs.declared.line_buffer.LineBuffer.{LineBuffer}
 use Rattle.lines.specs.declared.prompt.Prompt.{Prompt}
-use Rattle.measuring.specs.Measured.{EndsFor, NoteFine}
-use Rattle.measuring.specs.declared.measuring.LineEnds.{LineEnds}
+use Rattle.measuring.specs.Measured.{NoteFine}
+use Rattle.judging.specs.declared.judging.Placed.{Placed}
 use Rattle.page.proofs.Admitting.{Admitted, admitted}
 use Rattle.page.proofs.Propriety.{Bare-low, Fitted, fitted-is}
 use Rattle.page.proofs.Spelt.{good_none}
@@ -100,7 +100,7 @@ pub corner-erases : (l : Layout) → LaidAs 1 corner corner corner l → erase_l
 corner-erases l k i = erase_bytes ((k.end i).row - (k.cursor i).row) (k.end i).row
 
 -- from a session x, whose tables have taken the line ln and the position pos, to y, with an act's end r
-module _ {T H : Type 0} (w : World T H) (x y : State T H) (ln : List ℕ) (pos : ℕ) (e : LineEnds) (l : Layout) (s : Session) (b c : Tables) (r : Result Unit BrokenAct)
+module _ {T H : Type 0} (w : World T H) (x y : State T H) (ln : List ℕ) (pos : ℕ) (e : Placed) (l : Layout) (s : Session) (b c : Tables) (r : Result Unit BrokenAct)
     (held : Holds ln pos b.line) (same : b.prompt ≡ x.tables.prompt)
     (prep : Prepared w e x.highlighter x.session b l s c y.highlighter)
     (left : Left l s c r y.session y.tables) (styles : Styles) where
@@ -148,10 +148,10 @@ module _ {T H : Type 0} (w : World T H) (x y : State T H) (ln : List ℕ) (pos :
   pub hint-fine : (t : List ℕ) → hint ≡ Some t → GoodText t
   hint-fine t q = note-good hint (subst NoteFine hint-is prep.fine) t q
 
-  module _ (sound : Sound w.columns x.session x.tables) (good : GoodText ln) (place : AtBoundary ln pos) (ends : EndsFor w.columns x.session.size.cols ps ln pos e) (low : Low d ps ln []) where
+  module _ (sound : Sound w.columns x.session x.tables) (good : GoodText ln) (place : AtBoundary ln pos) (placed : PlacedFor w.columns x.session.size ps ln pos e) (low : Low d ps ln []) where
     fits : Fits d ps ln pos hint l (note_of c.hint)
     fits = subst (λ (o : Option (List ℕ)). Fits d ps ln pos o l (note_of c.hint)) hint-is
-        (prep.hint ps ln pos (record { behind = sound.prompt; text = good; place = place; ends = ends; low = low }))
+        (prep.hint ps ln pos (record { behind = sound.prompt; text = good; place = place; placed = placed; low = low }))
 
     pub note-is : note_of y.tables.note ≡ fitted d ps ln hint
     note-is = ap note_of left.note ∙ prep.note ∙ fits.hint

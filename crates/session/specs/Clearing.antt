@@ -2,7 +2,7 @@
 use Rattle.std.specs.Prelude.{◌≡◌, ℕ, Bool, cond, ◌&&◌, List, [], ◌∷◌, ◌++◌, Result}
 use Rattle.layout.specs.Laying.{LaidAs, corner}
 use Rattle.layout.specs.declared.block.Layout.{Layout}
-use Rattle.measuring.specs.declared.measuring.LineEnds.{LineEnds}
+use Rattle.judging.specs.declared.judging.Placed.{Placed}
 use Rattle.page.specs.Law.{World, Written}
 use Rattle.page.specs.Output.{framed}
 use Rattle.page.specs.declared.outcome.BrokenAct.{BrokenAct}
@@ -44,7 +44,7 @@ pub record DrawnCleared {T : Type 0} (answered : T → List ℕ → WriteAnswer 
   pub hint : c.hint ≡ b.hint
 
 -- hinter and highlighter are asked, and then the line is drawn from the window's first place
-pub record Cleared {T H : Type 0} (w : World T H) (e : LineEnds) (x : State T H) (r : Result Unit BrokenAct) (y : State T H) : Type 0 where
+pub record Cleared {T H : Type 0} (w : World T H) (e : Placed) (x : State T H) (r : Result Unit BrokenAct) (y : State T H) : Type 0 where
   pub origin : Layout
   pub first : LaidAs 1 corner corner corner origin
   pub layout : Layout

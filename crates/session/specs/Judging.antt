@@ -1,8 +1,7 @@
 -- How a session judges an act. Assumes nothing.
 use Rattle.std.specs.Prelude.{◌≡◌, ℕ, List, Option, Result}
-use Rattle.judging.specs.Judgements.{Tells}
-use Rattle.measuring.specs.Measured.{EndsFor}
-use Rattle.measuring.specs.declared.measuring.LineEnds.{LineEnds}
+use Rattle.judging.specs.Judgements.{PlacedFor, Tells}
+use Rattle.judging.specs.declared.judging.Placed.{Placed}
 use Rattle.page.specs.Acts.{Act}
 use Rattle.page.specs.Rules.{Refuses, refused_by}
 use Rattle.session.specs.Sessions.{Sound, View, is_torn, page_of, prompt_of}
@@ -21,6 +20,6 @@ pub record JudgesAct {A : Type 0} (w : ℕ → ℕ) (s : Session) (b : Tables) (
   pub refuses : Sound w s b → RefusesAct w s b extent a (refused_by r)
   pub tells : Sound w s b → Tells P r
 
--- and accepted it tells the places of a line
-abbrev pub JudgesEnds : (ℕ → ℕ) → Session → Tables → Size → Act → List ℕ → ℕ → Result LineEnds Refusal → Type 0
-JudgesEnds w s b extent a line pos = JudgesAct w s b extent a (EndsFor w s.size.cols (prompt_of b) line pos)
+-- and accepted it tells where a line ends, and its layout
+abbrev pub JudgesEnds : (ℕ → ℕ) → Session → Tables → Size → Act → List ℕ → ℕ → Result Placed Refusal → Type 0
+JudgesEnds w s b extent a line pos = JudgesAct w s b extent a (PlacedFor w s.size (prompt_of b) line pos)

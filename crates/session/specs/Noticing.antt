@@ -5,7 +5,7 @@ use Rattle.layout.specs.Laying.{LaidAs, corner}
 use Rattle.layout.specs.declared.block.Layout.{Layout}
 use Rattle.layout.specs.declared.layout.Position.{Position}
 use Rattle.lines.specs.Notes.{note_of}
-use Rattle.measuring.specs.declared.measuring.LineEnds.{LineEnds}
+use Rattle.judging.specs.declared.judging.Placed.{Placed}
 use Rattle.page.specs.Page.{note_text}
 use Rattle.page.specs.declared.outcome.BrokenAct.{BrokenAct}
 use Rattle.render.specs.Composing.{composed}
@@ -23,7 +23,7 @@ use Rattle.terminal.specs.declared.size.Size.{Size}
 use Rattle.terminal.specs.Answers.{WriteAnswer}
 
 -- the layout of a line with a note that the window holds
-abbrev pub LaysNote : (ℕ → ℕ) → Position → Size → LineEnds → Option (List ℕ) → Layout → Type 0
+abbrev pub LaysNote : (ℕ → ℕ) → Position → Size → Placed → Option (List ℕ) → Layout → Type 0
 LaysNote w p z e note l = (ps line : List ℕ) (pos : ℕ) → Standing w p z e ps line pos
     → place_row (geometry w z) (block (geometry w z) (ps ++ (chars line ++ note_text note))) < z.rows → LaidOut (geometry w z) ps line pos note l
 

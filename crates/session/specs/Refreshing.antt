@@ -1,6 +1,6 @@
 -- The line of a session drawn anew with the hinter's answer. Assumes nothing.
 use Rattle.layout.specs.declared.block.Layout.{Layout}
-use Rattle.measuring.specs.declared.measuring.LineEnds.{LineEnds}
+use Rattle.judging.specs.declared.judging.Placed.{Placed}
 use Rattle.page.specs.Law.{World}
 use Rattle.page.specs.declared.outcome.BrokenAct.{BrokenAct}
 use Rattle.session.specs.Painting.{Painted}
@@ -11,7 +11,7 @@ use Rattle.session.specs.declared.tables.Tables.{Tables}
 use Rattle.std.specs.Prelude.{Result}
 
 -- hinter and highlighter are asked, and then the line is drawn by the layout that follows
-pub record Refreshed {T H : Type 0} (w : World T H) (e : LineEnds) (x : State T H) (r : Result Unit BrokenAct) (y : State T H) : Type 0 where
+pub record Refreshed {T H : Type 0} (w : World T H) (e : Placed) (x : State T H) (r : Result Unit BrokenAct) (y : State T H) : Type 0 where
   pub layout : Layout
   pub session : Session
   pub tables : Tables

@@ -1,17 +1,10 @@
-//! Tests of sessions. The scripts behind the tables stand in oracle/session_tests; its table.py prints the tables.
+//! Tests of sessions at their limits, on terminals that the check did not mean, and of runs. What a session draws is compared by the
+//! program `replay`.
 #![tactic(auto)]
 
 #[cfg(test)]
-mod broken;
-#[cfg(test)]
-mod drawing;
-#[cfg(test)]
 mod limits;
 #[cfg(test)]
-mod notes;
-#[cfg(test)]
 mod stage;
-#[cfg(test)]
-mod steps;
 #[cfg(test)]
 mod strangers;

@@ -1,5 +1,5 @@
 // The limits of what a check and a session take. What is expected follows from the rules (docs/REFUSALS.md).
-use crate::stage::{Stage, bare, ending};
+use crate::stage::{Stage, by};
 use running::act::Act;
 use session::setup::Setup;
 use std::alloc::Global;
@@ -49,20 +49,19 @@ fn prompts(rt: HostRuntime) {
     assert_eq!(rt; wide.err(), Some(Refusal::Tall));
 }
 
-// Performs acts one behind the other, each with its expected end.
+// Performs acts one behind the other, each with the refusal that ends it, if one does.
 fn end_so(
     rt: &impl Abort,
     heap: Global,
     size: (u16, u16),
-    acts: &[(Act<'_>, &str)],
+    prompt: &[u8],
+    acts: &[(Act<'_>, Option<Refusal>)],
 ) -> Result<(), Fail> {
-    let (cols, rows) = size;
-    let (mut stage, created) = Stage::create(heap, Latin, bare(cols, rows))?;
+    let (mut stage, created) = Stage::create(heap, size, prompt)?;
     assert!(rt; created.is_ok());
-    for (act, expected) in acts {
+    for (act, refusal) in acts {
         let outcome = stage.perform(act)?;
-        let ended = ending(heap, outcome)?;
-        assert_eq!(rt; ended.as_str(), *expected);
+        assert_eq!(rt; outcome, refusal.map_or(Ok(()), by));
     }
     Ok(())
 }
@@ -79,23 +78,24 @@ fn long_lines(rt: HostRuntime) -> Result<(), Fail> {
         &rt,
         rt.alloc(),
         (500, 24),
+        b"> ",
         &[
-            (Act::Set(long, 4096), "accepted"),
-            (Act::Insert(b"a", 1), "refused 4 long"),
-            (Act::Insert(b"a", 0), "accepted"),
-            (Act::Set(&LETTERS, 0), "refused 4 long"),
-            (Act::Set(&LETTERS, 9999), "refused 4 long"),
-            (Act::Set(&bad, 9999), "refused 3 text"),
-            (Act::Set(long, 4097), "refused 5 place"),
-            (Act::Set(&LETTERS[..4095], 0), "accepted"),
-            (Act::Insert(b"\xc3\xa9", 1), "refused 4 long"),
-            (Act::Insert(b"a", 2), "refused 4 long"),
-            (Act::Insert(b"a", 1), "accepted"),
-            (Act::Go(4096), "accepted"),
-            (Act::Set(b"", 0), "accepted"),
-            (Act::Insert(b"a", 4097), "refused 4 long"),
-            (Act::Insert(b"a", 65535), "refused 4 long"),
-            (Act::Insert(b"a", 4096), "accepted"),
+            (Act::Set(long, 4096), None),
+            (Act::Insert(b"a", 1), Some(Refusal::Long)),
+            (Act::Insert(b"a", 0), None),
+            (Act::Set(&LETTERS, 0), Some(Refusal::Long)),
+            (Act::Set(&LETTERS, 9999), Some(Refusal::Long)),
+            (Act::Set(&bad, 9999), Some(Refusal::Text)),
+            (Act::Set(long, 4097), Some(Refusal::Place)),
+            (Act::Set(&LETTERS[..4095], 0), None),
+            (Act::Insert(b"\xc3\xa9", 1), Some(Refusal::Long)),
+            (Act::Insert(b"a", 2), Some(Refusal::Long)),
+            (Act::Insert(b"a", 1), None),
+            (Act::Go(4096), None),
+            (Act::Set(b"", 0), None),
+            (Act::Insert(b"a", 4097), Some(Refusal::Long)),
+            (Act::Insert(b"a", 65535), Some(Refusal::Long)),
+            (Act::Insert(b"a", 4096), None),
         ],
     )
 }
@@ -109,13 +109,14 @@ fn long_messages(rt: HostRuntime) -> Result<(), Fail> {
         &rt,
         rt.alloc(),
         (500, 24),
+        b"> ",
         &[
-            (Act::Message(&LETTERS[..1024]), "accepted"),
-            (Act::Message(&LETTERS[..1025]), "refused 4 long"),
-            (Act::Message(&bad[..1025]), "refused 3 text"),
-            (Act::Notice(&LETTERS[..4096]), "accepted"),
-            (Act::Notice(&LETTERS), "refused 4 long"),
-            (Act::Notice(&bad), "refused 3 text"),
+            (Act::Message(&LETTERS[..1024]), None),
+            (Act::Message(&LETTERS[..1025]), Some(Refusal::Long)),
+            (Act::Message(&bad[..1025]), Some(Refusal::Text)),
+            (Act::Notice(&LETTERS[..4096]), None),
+            (Act::Notice(&LETTERS), Some(Refusal::Long)),
+            (Act::Notice(&bad), Some(Refusal::Text)),
         ],
     )
 }
@@ -128,16 +129,17 @@ fn high_lines(rt: HostRuntime) -> Result<(), Fail> {
         &rt,
         rt.alloc(),
         (500, 200),
+        b"> ",
         &[
-            (Act::Set(&feeds, 0), "refused 6 tall"),
-            (Act::Set(&feeds, 201), "refused 5 place"),
-            (Act::Set(&feeds[..199], 0), "accepted"),
-            (Act::Insert(b"\n", 1), "refused 6 tall"),
-            (Act::Insert(b"\n", 0), "accepted"),
-            (Act::Message(b"m"), "accepted"),
-            (Act::Message(b"\n"), "refused 6 tall"),
-            (Act::Go(199), "accepted"),
-            (Act::Notice(b"n"), "accepted"),
+            (Act::Set(&feeds, 0), Some(Refusal::Tall)),
+            (Act::Set(&feeds, 201), Some(Refusal::Place)),
+            (Act::Set(&feeds[..199], 0), None),
+            (Act::Insert(b"\n", 1), Some(Refusal::Tall)),
+            (Act::Insert(b"\n", 0), None),
+            (Act::Message(b"m"), None),
+            (Act::Message(b"\n"), Some(Refusal::Tall)),
+            (Act::Go(199), None),
+            (Act::Notice(b"n"), None),
         ],
     )
 }
@@ -145,16 +147,17 @@ fn high_lines(rt: HostRuntime) -> Result<(), Fail> {
 // The longest prompt, line and message stand together: 512 + 4,096 + 1,024 bytes take 5,632 columns, 12 rows of 500.
 #[test]
 fn longest_block(rt: HostRuntime) -> Result<(), Fail> {
-    for (rows, expected) in [(12, "accepted"), (11, "refused 6 tall")] {
-        let mut scene = bare(500, rows);
-        scene.prompt = (&LETTERS[..512], &LETTERS[..512]);
-        let (mut stage, created) = Stage::create(rt.alloc(), Latin, scene)?;
-        assert!(rt; created.is_ok());
-        let set = stage.perform(&Act::Set(&LETTERS[..4096], 0))?;
-        assert!(rt; set.is_ok());
-        let message = stage.perform(&Act::Message(&LETTERS[..1024]))?;
-        let ended = ending(rt.alloc(), message)?;
-        assert_eq!(rt; ended.as_str(), expected, "{rows} rows");
+    for (rows, refusal) in [(12, None), (11, Some(Refusal::Tall))] {
+        end_so(
+            &rt,
+            rt.alloc(),
+            (500, rows),
+            &LETTERS[..512],
+            &[
+                (Act::Set(&LETTERS[..4096], 0), None),
+                (Act::Message(&LETTERS[..1024]), refusal),
+            ],
+        )?;
     }
     Ok(())
 }

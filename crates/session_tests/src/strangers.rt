@@ -1,5 +1,5 @@
 // Sessions on terminals that the check did not mean, and runs. What is expected follows from the rules (docs/SESSION.md).
-use crate::stage::grid;
+use crate::stage::{by, grid};
 use highlight::plain::PlainHighlighter;
 use hint::hint::NoHinter;
 use page::outcome::Rejection;
@@ -13,18 +13,13 @@ use terminal::size::Size;
 use text::refusal::Refusal;
 use widths::tables::{Eastern, Latin};
 
-// The end of an act that a rule refuses.
-fn by(refusal: Refusal) -> Result<(), Rejection> {
-    Err(Rejection::Refused(refusal))
-}
-
 // A session created on a terminal of another size refuses every act by 1, on any terminal, and nothing is written.
 #[test]
 fn created_elsewhere(rt: HostRuntime) -> Result<(), Fail> {
     let heap = rt.alloc();
     let setup = Setup::check::<Latin>(5, 24, b"> ", b"> ", false, false)?;
-    let mut other = grid(heap, Latin, Size::new(6, 24)?, &[])?;
-    let mut right = grid(heap, Latin, Size::new(5, 24)?, &[])?;
+    let mut other = grid(heap, Latin, Size::new(6, 24)?)?;
+    let mut right = grid(heap, Latin, Size::new(5, 24)?)?;
     let mut tables = Tables::new();
     let lit = &mut PlainHighlighter;
     let (mut session, created) = Session::create(&setup, &mut tables, &mut other, lit, &NoHinter);
@@ -45,8 +40,8 @@ fn created_elsewhere(rt: HostRuntime) -> Result<(), Fail> {
 fn performed_elsewhere(rt: HostRuntime) -> Result<(), Fail> {
     let heap = rt.alloc();
     let setup = Setup::check::<Latin>(5, 24, b"> ", b"> ", false, false)?;
-    let mut other = grid(heap, Latin, Size::new(5, 23)?, &[])?;
-    let mut right = grid(heap, Latin, Size::new(5, 24)?, &[])?;
+    let mut other = grid(heap, Latin, Size::new(5, 23)?)?;
+    let mut right = grid(heap, Latin, Size::new(5, 24)?)?;
     let mut tables = Tables::new();
     let lit = &mut PlainHighlighter;
     let (mut session, created) = Session::create(&setup, &mut tables, &mut right, lit, &NoHinter);
@@ -72,7 +67,7 @@ fn performed_elsewhere(rt: HostRuntime) -> Result<(), Fail> {
 fn other_widths(rt: HostRuntime) -> Result<(), Fail> {
     let prompt: &[u8] = b"\xe4\xb8\xad";
     let setup = Setup::check::<Latin>(2, 1, prompt, prompt, false, false)?;
-    let mut terminal = grid(rt.alloc(), Eastern, Size::new(2, 1)?, &[])?;
+    let mut terminal = grid(rt.alloc(), Eastern, Size::new(2, 1)?)?;
     let mut tables = Tables::new();
     let lit = &mut PlainHighlighter;
     let (mut session, created) = Session::create(
@@ -134,7 +129,7 @@ impl<T> Observer<T> for Count {
 #[test]
 fn runs(rt: HostRuntime) -> Result<(), Fail> {
     let setup = Setup::check::<Latin>(5, 24, b"> ", b"> ", false, false)?;
-    let mut terminal = grid(rt.alloc(), Latin, Size::new(5, 24)?, &[])?;
+    let mut terminal = grid(rt.alloc(), Latin, Size::new(5, 24)?)?;
     let acts = [
         Act::Set(b"ab", 3),
         Act::Set(b"ab", 2),

@@ -18,15 +18,15 @@ fn is_simple(byte: u8) -> bool
 }
 
 // Whether all bytes are such characters, which takes no decoding to say.
+// The walk goes on behind a byte that is none: without a way out it takes many bytes at once.
 fn all_simple(bytes: &[u8]) -> bool
     ensures { result ≡ true → GoodText bytes.now }
 {
+    let mut simple = true;
     for byte in bytes {
-        if !is_simple(*byte) {
-            return false;
-        }
+        simple &= is_simple(*byte);
     }
-    true
+    simple
 }
 
 // Accepts a good text, and refuses any other.

@@ -1,5 +1,5 @@
 // What puts bytes into a buffer.
-ghost use Rattle.std.specs.Prelude.{◌≡◌, ◌++◌, [], take, drop};
+ghost use Rattle.std.specs.Prelude.{◌≡◌, ◌+◌, ◌≤◌, ◌∷◌, ◌++◌, [], length, take, drop};
 ghost use Rattle.std.specs.List.{repeat};
 ghost use Rattle.buffer.specs.Contents.{Becomes, contents};
 
@@ -51,11 +51,31 @@ impl<const N: usize> Buffer<N> {
         if bytes.len() > N - self.len {
             return Err(Full);
         }
+        self.append(bytes);
+        Ok(())
+    }
+
+    // Puts bytes behind those that are there, where there is room for them.
+    fn append(&mut self, bytes: &[u8])
+        requires { length (contents self.old) + length bytes.now ≤ N }
+        ensures { contents self.new ≡ contents self.old ++ bytes.now }
+    {
         let len = self.len;
         let end = len + bytes.len();
         let memory = &mut self.memory[..];
         memory[len..end].copy_from_slice(bytes);
         self.len = end;
+    }
+
+    // Puts a byte behind those that are there, unless there is no room for it.
+    fn push(&mut self, byte: u8) -> Result<(), Full>
+        ensures { Becomes (contents self.old ++ byte ∷ []) self.old result self.new }
+    {
+        if self.len == N {
+            return Err(Full);
+        }
+        self.memory[self.len] = byte;
+        self.len += 1;
         Ok(())
     }
 
@@ -63,6 +83,9 @@ impl<const N: usize> Buffer<N> {
     pub fn extend_repeated(&mut self, text: &[u8], count: u16) -> Result<(), Full>
         ensures { Becomes (contents self.old ++ repeat count text.now) self.old result self.new }
     {
+        if let ([byte], 1) = (text, count) {
+            return self.push(*byte);
+        }
         let Some(added) = text.len().checked_mul(usize::from(count)) else {
             return Err(Full);
         };
@@ -70,7 +93,7 @@ impl<const N: usize> Buffer<N> {
             return Err(Full);
         }
         for _ in 0..count {
-            self.extend_from_slice(text).unwrap();
+            self.append(text);
         }
         Ok(())
     }
@@ -81,8 +104,10 @@ impl<const N: usize> Buffer<N> {
     {
         let len = self.len;
         self.extend_repeated(text, count)?;
-        let memory = &mut self.memory[..self.len];
-        memory[at.min(len)..].rotate_left(len - at.min(len));
+        if at < len {
+            let memory = &mut self.memory[..self.len];
+            memory[at..].rotate_left(len - at);
+        }
         Ok(())
     }
 }

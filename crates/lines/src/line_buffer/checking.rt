@@ -51,5 +51,17 @@ fn check_place(line: &[u8], pos: usize) -> Result<(), Refusal>
 fn is_one_character(bytes: &[u8]) -> bool
     ensures { Decides result (OneCharacter bytes.now) }
 {
+    match bytes {
+        [byte] if *byte < 0x80 => is_good(char::from(*byte)),
+        _ => is_decoded_whole(bytes),
+    }
+}
+
+// Whether bytes are one good character, told by decoding it.
+// Kept out of line, so that the caller saves no registers where a byte tells.
+#[inline(never)]
+fn is_decoded_whole(bytes: &[u8]) -> bool
+    ensures { Decides result (OneCharacter bytes.now) }
+{
     char_at(bytes, 0).is_some_and(|found| found.len == bytes.len() && is_good(found.code))
 }

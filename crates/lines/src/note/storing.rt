@@ -1,10 +1,10 @@
 // What a note holds, and what changes it.
-ghost use Rattle.std.specs.Prelude.{◌≡◌, None};
+ghost use Rattle.std.specs.Prelude.{◌≡◌, ◌≤◌, length, take, Some, None};
 ghost use Rattle.lines.specs.Notes.{Sets, note_of};
 ghost use Rattle.std.specs.Option.{option_map};
+ghost use Rattle.text.specs.Texts.{GoodText};
 
 use crate::note::{MAX_NOTE, Note};
-use buffer::buffer::Buffer;
 use hint::hint::Hinter;
 use text::refusal::Refusal;
 
@@ -13,21 +13,25 @@ impl Note {
     pub fn new() -> Note
         ensures { note_of result ≡ None }
     {
-        Note { text: None }
+        Note {
+            memory: [0; MAX_NOTE],
+            len: None,
+        }
     }
 
     // The note's bytes, if there is one.
     pub fn get(&self) -> Option<&[u8]>
         ensures { option_map (λ x. x.now) result ≡ note_of self.now }
     {
-        self.text.as_ref().map(|held| held.as_slice())
+        let len = self.len?;
+        Some(&self.memory[..len])
     }
 
     // Drops the note.
     pub fn clear(&mut self)
         ensures { note_of self.new ≡ None }
     {
-        self.text = None;
+        self.len = None;
     }
 
     // Takes a text for a note, unless it is not good or too long.
@@ -35,17 +39,27 @@ impl Note {
         ensures { Sets text.now self.old result self.new }
     {
         Note::check(text)?;
-        self.text = Some(Buffer::try_from(text).unwrap());
+        self.keep(text);
         Ok(())
     }
 
-    // Takes what another note holds; where that is nothing, no memory is copied.
+    // Takes a good text that is not too long, and copies no more than its bytes.
+    fn keep(&mut self, text: &[u8])
+        requires good { GoodText text.now }
+        requires short { length text.now ≤ 1024 }
+        ensures { note_of self.new ≡ Some text.now }
+    {
+        write_front(text, &mut self.memory);
+        self.len = Some(text.len());
+    }
+
+    // Takes what another note holds.
     pub fn copy_from(&mut self, other: &Note)
         ensures { note_of self.new ≡ note_of other.now }
     {
-        match &other.text {
-            Some(held) => self.text = Some(*held),
-            None => self.text = None,
+        match other.get() {
+            Some(text) => self.keep(text),
+            None => self.clear(),
         }
     }
 
@@ -53,11 +67,14 @@ impl Note {
     pub fn fill<N: Hinter>(&mut self, hinter: &N, line: &[u8], pos: usize)
         ensures { note_of self.new ≡ N.Hinter.hints hinter.now line.now pos }
     {
-        let mut memory = [0; MAX_NOTE];
-        let len = hinter.hint(line, pos, &mut memory);
-        match len {
-            Some(len) => self.text = Some(Buffer::filled(memory, len)),
-            None => self.clear(),
-        }
+        self.len = hinter.hint(line, pos, &mut self.memory);
     }
+}
+
+// Writes a text to the front of a memory.
+fn write_front(text: &[u8], memory: &mut [u8; MAX_NOTE])
+    requires { length text.now ≤ 1024 }
+    ensures { take (length text.now) memory.new ≡ text.now }
+{
+    memory[..text.len()].copy_from_slice(text);
 }

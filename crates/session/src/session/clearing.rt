@@ -14,8 +14,8 @@ use crate::standing::Standing;
 use crate::tables::Tables;
 use highlight::highlight::Highlighter;
 use hint::hint::Hinter;
+use judging::judging::Placed;
 use layout::block::Layout;
-use measuring::measuring::LineEnds;
 use page::outcome::{BrokenAct, Rejection};
 use render::block::Block;
 use render::update::write_synchronized;
@@ -33,8 +33,8 @@ impl Session {
     ) -> Result<(), Rejection>
         ensures { Acted (world_of T.Terminal.screen T.Terminal.extent T.Terminal.answered T.Widths.WidthTable.columns H.Highlighter.lights H.Highlighter.lights_prompt H.Highlighter.lights_hint H.Highlighter.heeds (N.Hinter.hints hinter.now)) (state_of terminal.old highlighter.old self.old tables.old) clearing result (state_of terminal.new highlighter.new self.new tables.new) }
     {
-        let ends = self.judge_clear(tables, terminal)?;
-        outcome_of(self.clear_line(tables, terminal, highlighter, hinter, ends))
+        let placed = self.judge_clear(tables, terminal)?;
+        outcome_of(self.clear_line(tables, terminal, highlighter, hinter, placed))
     }
 
     // Asks hinter and highlighter, blanks the window, and draws the line from its first place.
@@ -44,14 +44,14 @@ impl Session {
         terminal: &mut T,
         highlighter: &mut H,
         hinter: &N,
-        ends: LineEnds,
+        placed: Placed,
     ) -> Result<(), BrokenAct>
-        ensures { Cleared (world_of T.Terminal.screen T.Terminal.extent T.Terminal.answered T.Widths.WidthTable.columns H.Highlighter.lights H.Highlighter.lights_prompt H.Highlighter.lights_hint H.Highlighter.heeds (N.Hinter.hints hinter.now)) ends (state_of terminal.old highlighter.old self.old tables.old) result (state_of terminal.new highlighter.new self.new tables.new) }
+        ensures { Cleared (world_of T.Terminal.screen T.Terminal.extent T.Terminal.answered T.Widths.WidthTable.columns H.Highlighter.lights H.Highlighter.lights_prompt H.Highlighter.lights_hint H.Highlighter.heeds (N.Hinter.hints hinter.now)) placed (state_of terminal.old highlighter.old self.old tables.old) result (state_of terminal.new highlighter.new self.new tables.new) }
     {
         let release = self.may_hold();
         self.layout = Layout::origin();
         self.standing = Standing::Torn;
-        let layout = self.prepare::<T, H, N>(tables, highlighter, hinter, ends);
+        let layout = self.prepare::<T, H, N>(tables, highlighter, hinter, placed);
         self.paint_cleared(tables, terminal, highlighter, layout, release)
     }
 

@@ -65,7 +65,13 @@ impl Session {
             return Err(Rejection::Refused(Refusal::Size));
         }
         match judge_line::<T::Widths>(self.window(), &tables.line) {
-            Ok(ends) => outcome_of(self.refresh_line(tables, terminal, highlighter, hinter, ends)),
+            Ok(placed) => outcome_of(self.refresh_line(
+                tables,
+                terminal,
+                highlighter,
+                hinter,
+                placed,
+            )),
             Err(refusal) => {
                 self.standing = Standing::Tall;
                 Err(Rejection::Refused(refusal))

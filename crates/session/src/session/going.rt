@@ -8,7 +8,6 @@ use crate::session::Session;
 use crate::session::refreshing::outcome_of;
 use crate::tables::Tables;
 use highlight::highlight::{CmdKind, Highlighter};
-use judging::hints::bare_layout;
 use judging::judging::judge_line;
 use layout::block::Layout;
 use layout::layout::Position;
@@ -37,7 +36,7 @@ fn line_alone<W: WidthTable>(window: Window, line: &LineBuffer) -> Layout
     ensures { LaysBare W.WidthTable.columns window.prompt window.size line.now result }
 {
     match judge_line::<W>(window, line) {
-        Ok(ends) => bare_layout::<W>(window, ends),
+        Ok(placed) => placed.layout,
         Err(_) => Layout::origin(),
     }
 }

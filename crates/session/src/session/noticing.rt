@@ -9,24 +9,23 @@ use crate::session::Session;
 use crate::session::refreshing::outcome_of;
 use crate::tables::Tables;
 use highlight::highlight::Highlighter;
+use judging::judging::Placed;
 use layout::block::Layout;
-use measuring::measuring::LineEnds;
 use page::outcome::{BrokenAct, Rejection};
 use render::block::Block;
 use terminal::terminal::Terminal;
 
 impl Session {
     // The layout of the line with the hint last answered.
-    fn hinted_layout<T: Terminal>(&self, tables: &Tables, ends: LineEnds) -> Layout
-        ensures { LaysNote T.Widths.WidthTable.columns self.now.prompt self.now.size ends (note_of tables.now.hint) result }
+    fn hinted_layout<T: Terminal>(&self, tables: &Tables, placed: Placed) -> Layout
+        ensures { LaysNote T.Widths.WidthTable.columns self.now.prompt self.now.size placed (note_of tables.now.hint) result }
     {
-        match self
-            .window()
-            .compute_layout::<T::Widths>(ends, tables.hint.get())
-        {
-            Some(layout) => layout,
-            None => Layout::origin(),
-        }
+        let Some(hint) = tables.hint.get() else {
+            return placed.layout;
+        };
+        self.window()
+            .compute_layout::<T::Widths>(placed.ends, Some(hint))
+            .unwrap_or(Layout::origin())
     }
 
     // Writes a notice in the place of the block and draws that below it by another layout, with the hint last answered
@@ -69,8 +68,8 @@ impl Session {
     ) -> Result<(), Rejection>
         ensures { (hints : List ℕ → ℕ → Option (List ℕ)) → Acted (world_of T.Terminal.screen T.Terminal.extent T.Terminal.answered T.Widths.WidthTable.columns H.Highlighter.lights H.Highlighter.lights_prompt H.Highlighter.lights_hint H.Highlighter.heeds hints) (state_of terminal.old highlighter.now self.old tables.old) (noticing text.now) result (state_of terminal.new highlighter.now self.new tables.new) }
     {
-        let ends = self.judge_notice(tables, terminal, text)?;
-        let layout = self.hinted_layout::<T>(tables, ends);
+        let placed = self.judge_notice(tables, terminal, text)?;
+        let layout = self.hinted_layout::<T>(tables, placed);
         outcome_of(self.print_notice(tables, terminal, highlighter, layout, text))
     }
 }

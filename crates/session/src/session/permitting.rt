@@ -1,19 +1,20 @@
 // How a session judges an act, before anything is altered.
-ghost use Rattle.std.specs.Prelude.{◌+◌, ◌*◌, ◌++◌, length, Some};
+ghost use Rattle.std.specs.Prelude.{◌≡◌, ◌+◌, ◌*◌, ◌++◌, true, length, IfSome, Some};
 ghost use Rattle.judging.specs.Fitting.{LaidOut};
 ghost use Rattle.judging.specs.Judgements.{inserted};
 ghost use Rattle.lines.specs.Lines.{line_of};
 ghost use Rattle.page.specs.Acts.{clear, finish, go, insert, message, notice, refresh, set};
 ghost use Rattle.session.specs.Judging.{JudgesAct, JudgesEnds};
 ghost use Rattle.session.specs.Sessions.{prompt_of};
+ghost use Rattle.session.specs.Typing.{ColumnsOf, in_row};
 ghost use Rattle.terminal.specs.Windows.{geometry};
 
 use crate::session::Session;
+use crate::standing::Standing;
 use crate::tables::Tables;
-use judging::judging::{judge_insert, judge_message, judge_set};
+use judging::judging::{Placed, judge_message, judge_set};
 use layout::block::Layout;
 use lines::notice::check_notice;
-use measuring::measuring::LineEnds;
 use terminal::terminal::Terminal;
 use text::refusal::Refusal;
 
@@ -23,7 +24,7 @@ impl Session {
         &self,
         tables: &Tables,
         terminal: &T,
-    ) -> Result<LineEnds, Refusal>
+    ) -> Result<Placed, Refusal>
         ensures { JudgesEnds T.Widths.WidthTable.columns self.now tables.now (T.Terminal.extent terminal.now) refresh (line_of tables.now.line) tables.now.line.pos result }
     {
         self.admit(terminal, false)?;
@@ -35,7 +36,7 @@ impl Session {
         &self,
         tables: &Tables,
         terminal: &T,
-    ) -> Result<LineEnds, Refusal>
+    ) -> Result<Placed, Refusal>
         ensures { JudgesEnds T.Widths.WidthTable.columns self.now tables.now (T.Terminal.extent terminal.now) clear (line_of tables.now.line) tables.now.line.pos result }
     {
         self.admit(terminal, true)?;
@@ -49,27 +50,31 @@ impl Session {
         terminal: &T,
         line: &[u8],
         pos: usize,
-    ) -> Result<LineEnds, Refusal>
+    ) -> Result<Placed, Refusal>
         ensures { JudgesEnds T.Widths.WidthTable.columns self.now tables.now (T.Terminal.extent terminal.now) (set line.now pos) line.now pos result }
     {
         self.admit(terminal, false)?;
         judge_set::<T::Widths>(self.window(), line, pos)
     }
 
-    // A character put so many times before the edit position.
+    // A character put so many times before the edit position; `typed` has its columns where it stays in the cursor's row.
     pub(crate) fn judge_insert<T: Terminal>(
         &self,
         tables: &Tables,
         terminal: &T,
         text: &[u8],
         count: u16,
-    ) -> Result<LineEnds, Refusal>
+        typed: Option<u16>,
+    ) -> Result<Placed, Refusal>
+        requires { IfSome typed (λ width. (in_row self.now tables.now count width ≡ true) × ColumnsOf T.Widths.WidthTable.columns text.now width) }
         ensures { JudgesEnds T.Widths.WidthTable.columns self.now tables.now (T.Terminal.extent terminal.now) (insert text.now count) (inserted (line_of tables.now.line) tables.now.line.pos text.now count) (tables.now.line.pos + count * length text.now) result }
     {
         self.admit(terminal, false)?;
-        match self.known_ends::<T>(tables) {
-            Some(ends) => self.judge_put::<T>(tables, ends.cursor, text, count),
-            None => judge_insert::<T::Widths>(self.window(), &tables.line, text, count),
+        match typed {
+            Some(width) if self.standing == Standing::Open => {
+                self.judge_typed::<T>(tables, text, count, width)
+            }
+            _ => self.judge_walked::<T>(tables, text, count),
         }
     }
 
@@ -106,7 +111,7 @@ impl Session {
         tables: &Tables,
         terminal: &T,
         text: &[u8],
-    ) -> Result<LineEnds, Refusal>
+    ) -> Result<Placed, Refusal>
         ensures { JudgesEnds T.Widths.WidthTable.columns self.now tables.now (T.Terminal.extent terminal.now) (notice text.now) (line_of tables.now.line) tables.now.line.pos result }
     {
         self.admit(terminal, false)?;

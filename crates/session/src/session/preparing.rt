@@ -7,8 +7,8 @@ use crate::tables::Tables;
 use highlight::highlight::{CmdKind, Highlighter};
 use hint::hint::Hinter;
 use judging::hints::fit_hint;
+use judging::judging::Placed;
 use layout::block::Layout;
-use measuring::measuring::LineEnds;
 use terminal::terminal::Terminal;
 
 impl Session {
@@ -19,14 +19,14 @@ impl Session {
         tables: &mut Tables,
         highlighter: &mut H,
         hinter: &N,
-        ends: LineEnds,
+        placed: Placed,
     ) -> Layout
-        ensures { Prepared (world_of T.Terminal.screen T.Terminal.extent T.Terminal.answered T.Widths.WidthTable.columns H.Highlighter.lights H.Highlighter.lights_prompt H.Highlighter.lights_hint H.Highlighter.heeds (N.Hinter.hints hinter.now)) ends highlighter.old self.old tables.old result self.new tables.new highlighter.new }
+        ensures { Prepared (world_of T.Terminal.screen T.Terminal.extent T.Terminal.answered T.Widths.WidthTable.columns H.Highlighter.lights H.Highlighter.lights_prompt H.Highlighter.lights_hint H.Highlighter.heeds (N.Hinter.hints hinter.now)) placed highlighter.old self.old tables.old result self.new tables.new highlighter.new }
     {
         let line = &tables.line;
         let hint = &mut tables.hint;
         hint.fill(hinter, line.line(), line.pos());
-        let layout = fit_hint::<T::Widths>(self.window(), ends, hint);
+        let layout = fit_hint::<T::Widths>(self.window(), placed, hint);
         let hint = &tables.hint;
         let note = &mut tables.note;
         note.copy_from(hint);

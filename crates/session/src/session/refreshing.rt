@@ -8,7 +8,7 @@ use crate::session::Session;
 use crate::tables::Tables;
 use highlight::highlight::Highlighter;
 use hint::hint::Hinter;
-use measuring::measuring::LineEnds;
+use judging::judging::Placed;
 use page::outcome::{BrokenAct, Rejection};
 use terminal::terminal::Terminal;
 
@@ -27,11 +27,11 @@ impl Session {
         terminal: &mut T,
         highlighter: &mut H,
         hinter: &N,
-        ends: LineEnds,
+        placed: Placed,
     ) -> Result<(), BrokenAct>
-        ensures { Refreshed (world_of T.Terminal.screen T.Terminal.extent T.Terminal.answered T.Widths.WidthTable.columns H.Highlighter.lights H.Highlighter.lights_prompt H.Highlighter.lights_hint H.Highlighter.heeds (N.Hinter.hints hinter.now)) ends (state_of terminal.old highlighter.old self.old tables.old) result (state_of terminal.new highlighter.new self.new tables.new) }
+        ensures { Refreshed (world_of T.Terminal.screen T.Terminal.extent T.Terminal.answered T.Widths.WidthTable.columns H.Highlighter.lights H.Highlighter.lights_prompt H.Highlighter.lights_hint H.Highlighter.heeds (N.Hinter.hints hinter.now)) placed (state_of terminal.old highlighter.old self.old tables.old) result (state_of terminal.new highlighter.new self.new tables.new) }
     {
-        let layout = self.prepare::<T, H, N>(tables, highlighter, hinter, ends);
+        let layout = self.prepare::<T, H, N>(tables, highlighter, hinter, placed);
         self.paint(tables, terminal, highlighter, layout)
     }
 
@@ -45,8 +45,8 @@ impl Session {
     ) -> Result<(), Rejection>
         ensures { Acted (world_of T.Terminal.screen T.Terminal.extent T.Terminal.answered T.Widths.WidthTable.columns H.Highlighter.lights H.Highlighter.lights_prompt H.Highlighter.lights_hint H.Highlighter.heeds (N.Hinter.hints hinter.now)) (state_of terminal.old highlighter.old self.old tables.old) refreshing result (state_of terminal.new highlighter.new self.new tables.new) }
     {
-        let ends = self.judge_refresh(tables, terminal)?;
-        outcome_of(self.refresh_line(tables, terminal, highlighter, hinter, ends))
+        let placed = self.judge_refresh(tables, terminal)?;
+        outcome_of(self.refresh_line(tables, terminal, highlighter, hinter, placed))
     }
 
     // Takes another line and position.
@@ -61,8 +61,8 @@ impl Session {
     ) -> Result<(), Rejection>
         ensures { Acted (world_of T.Terminal.screen T.Terminal.extent T.Terminal.answered T.Widths.WidthTable.columns H.Highlighter.lights H.Highlighter.lights_prompt H.Highlighter.lights_hint H.Highlighter.heeds (N.Hinter.hints hinter.now)) (state_of terminal.old highlighter.old self.old tables.old) (setting line.now pos) result (state_of terminal.new highlighter.new self.new tables.new) }
     {
-        let ends = self.judge_set(tables, terminal, line, pos)?;
+        let placed = self.judge_set(tables, terminal, line, pos)?;
         tables.line.update(line, pos)?;
-        outcome_of(self.refresh_line(tables, terminal, highlighter, hinter, ends))
+        outcome_of(self.refresh_line(tables, terminal, highlighter, hinter, placed))
     }
 }

@@ -11,19 +11,18 @@ use crate::tables::Tables;
 use highlight::highlight::Highlighter;
 use hint::hint::Hinter;
 use layout::block::Layout;
-use layout::layout::Position;
-use measuring::measuring::walk_text;
 use page::outcome::{BrokenAct, Rejection};
 use render::writing::write_and_flush;
 use terminal::terminal::Terminal;
+use text::decode::char_at;
 use widths::tables::WidthTable;
 
 // The columns that a character takes; 0 for other bytes.
 fn columns_of<W: WidthTable>(text: &[u8]) -> u16
     ensures { ColumnsOf W.WidthTable.columns text.now result }
 {
-    match walk_text::<W>(Position { col: 0, row: 0 }, text, 2) {
-        Some(end) => end.col,
+    match char_at(text, 0) {
+        Some(found) => u16::from(W::width(found.code)),
         None => 0,
     }
 }
@@ -75,11 +74,13 @@ impl Session {
     ) -> Result<(), Rejection>
         ensures { Acted (world_of T.Terminal.screen T.Terminal.extent T.Terminal.answered T.Widths.WidthTable.columns H.Highlighter.lights H.Highlighter.lights_prompt H.Highlighter.lights_hint H.Highlighter.heeds (N.Hinter.hints hinter.now)) (state_of terminal.old highlighter.old self.old tables.old) (inserting text.now count) result (state_of terminal.new highlighter.new self.new tables.new) }
     {
-        let ends = self.judge_insert(tables, terminal, text, count)?;
-        let in_row = self.stays_in_row(tables, count, columns_of::<T::Widths>(text));
+        let width = columns_of::<T::Widths>(text);
+        let in_row = self.stays_in_row(tables, count, width);
+        let typed = in_row.then_some(width);
+        let placed = self.judge_insert(tables, terminal, text, count, typed)?;
         let was_lit = self.lit;
         tables.line.insert(text, count)?;
-        let layout = self.prepare::<T, H, N>(tables, highlighter, hinter, ends);
+        let layout = self.prepare::<T, H, N>(tables, highlighter, hinter, placed);
         if self.writes_directly(tables, in_row, was_lit) {
             outcome_of(self.type_text(terminal, text, layout))
         } else {

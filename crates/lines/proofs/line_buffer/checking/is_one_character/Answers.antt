@@ -1,6 +1,6 @@
-use Rattle.std.proofs.Common.{rules}
-use Rattle.lines.proofs.Characters.{one-decides}
+use Rattle.std.proofs.Common.{arith}
+use Rattle.lines.proofs.Characters.{one-plain}
 use Rattle.lines.proofs.line_buffer.checking.is_one_character.Goals as goal
 
-pub returns : goal.returns
-returns c = one-decides c.args.bytes.now c.char_at.result c.is_some_and.result c.char_at.ensures.decodes (search rules)
+pub returns-in-len1 : goal.returns-in-len1
+returns-in-len1 c = one-plain c.args.bytes.now c.from.result c.is_good.result (omega (arith, c.in-len1.len_at_least, c.in-len1.len_below)) c.from.ensures (omega (arith, c.from.ensures, c.if-byte-lt128.true)) c.is_good.ensures

@@ -6,7 +6,7 @@ use Rattle.std.proofs.Common.{subst}
 use Rattle.session.proofs.session.Session.judge_height.Goals as goal
 
 pub returns-in-Some : goal.returns-in-Some
-returns-in-Some g c = height-known g.T.Widths.WidthTable.columns c.args.self.now c.args.tables.now c.in-Some.ends c.known_ends.result c.in-Some.is c.known_ends.ensures
+returns-in-Some g c = height-known g.T.Widths.WidthTable.columns c.args.self.now c.args.tables.now c.in-Some.placed c.known_line.result c.in-Some.is c.known_line.ensures
 
 pub returns-in-None : goal.returns-in-None
 returns-in-None g c =

@@ -10,11 +10,11 @@ returns g c =
     refresh-acted (world_of g.T.Terminal.screen g.T.Terminal.extent g.T.Terminal.answered g.T.Widths.WidthTable.columns g.H.Highlighter.lights g.H.Highlighter.lights_prompt g.H.Highlighter.lights_hint g.H.Highlighter.heeds (g.N.Hinter.hints c.args.hinter.now))
     (state_of c.args.terminal.now c.args.highlighter.now c.args.self.now c.args.tables.now)
     (state_of c.refresh_line.new.terminal c.refresh_line.new.highlighter c.refresh_line.new.self c.refresh_line.new.tables)
-    c.in_ok-ends.ends c.refresh_line.result c.outcome_of.result c.outcome_of.ensures c.in_ok-ends.ensures c.refresh_line.ensures
+    c.in_ok-placed.placed c.refresh_line.result c.outcome_of.result c.outcome_of.ensures c.in_ok-placed.ensures c.refresh_line.ensures
 
-pub returns-in_err-ends : goal.returns-in_err-ends
-returns-in_err-ends g c =
+pub returns-in_err-placed : goal.returns-in_err-placed
+returns-in_err-placed g c =
     let p = err_from_is_err_and c.from_residual.result c.from_residual.ensures.1 in
     rw (p.1, p.2) (refused-acted (world_of g.T.Terminal.screen g.T.Terminal.extent g.T.Terminal.answered g.T.Widths.WidthTable.columns g.H.Highlighter.lights g.H.Highlighter.lights_prompt g.H.Highlighter.lights_hint g.H.Highlighter.heeds (g.N.Hinter.hints c.args.hinter.now))
     (state_of c.args.terminal.now c.args.highlighter.now c.args.self.now c.args.tables.now)
-    refresh c.in_err-ends.field-0.0 c.in_err-ends.ensures.refuses)
+    refresh c.in_err-placed.field-0.0 c.in_err-placed.ensures.refuses)
