@@ -1,10 +1,10 @@
 #!/usr/bin/env python3
-"""Tries the slips in the definitions of `page` by the worked facts, and says which fact is false under each.
+"""Tries the slips in the definitions of `page`, and of what `screen` says of output, by the worked facts, and says which facts fail under each.
 
     tools/planted_facts.py [--scratch FOLDER] [--only WORD]
 
 A slip in a definition is mostly refused because a proof written for the text as it was no longer fits, which says little. Here no lemma of
-`page` stands in the way: for each slip the definitions of `page` with the slip, and the worked facts about them (`crates/worked`), are
+the two crates stands in the way: for each slip their definitions with the slip, and the worked facts about them (`crates/worked`), are
 written under names of their own into one crate of a copy of the repository, and one `rt check` of that crate says which facts are false.
 One such set has no slip, and all of its facts are to hold. A slip under which all facts are true is not judged by this.
 
@@ -22,14 +22,16 @@ import plant_bugs
 
 ROOT = plant_bugs.ROOT
 BELOW = ["text", "widths", "layout", "screen", "terminal", "highlight", "page", "worked"]
-DEFINITIONS = ["Acts", "Output", "Page", "Rules", "Law", "Runs"]
-FACTS = ["Writes", "Pages", "Rules", "Steps"]
-PROOFS = ["Writing", "Paging", "Refusing", "Stepping"]
+DEFINITIONS = {"page": ["Acts", "Output", "Page", "Rules", "Law", "Runs"], "screen": ["Output", "Sequences"]}
+FACTS = ["Writes", "Pages", "Rules", "Steps", "Rows"]
+MODULES = [(crate, it) for crate, modules in DEFINITIONS.items() for it in modules]
+PROOFS = ["Writing", "Paging", "Refusing", "Stepping", "Reading"]
 
 
 def renamed(text, mark):
     """A text that speaks of the definitions and facts under a slip's own names."""
-    text = re.sub(rf"Rattle\.page\.specs\.({'|'.join(DEFINITIONS)})\b", rf"Rattle.planted.specs.{mark}\1", text)
+    for crate, modules in DEFINITIONS.items():
+        text = re.sub(rf"Rattle\.{crate}\.specs\.({'|'.join(modules)})\b", rf"Rattle.planted.specs.{mark}{crate.title()}\1", text)
     text = re.sub(rf"Rattle\.worked\.specs\.({'|'.join(FACTS)})\b", rf"Rattle.planted.specs.{mark}Worked\1", text)
     return re.sub(rf"Rattle\.worked\.proofs\.({'|'.join(PROOFS)})\b", rf"Rattle.planted.proofs.{mark}\1", text)
 
@@ -60,12 +62,12 @@ def prepare(scratch):
     write(f"{scratch}/crates/planted/src/lib.rt", "//! Slips.\n#![tactic(auto)]\n\npub fn one() -> u8 {\n    1\n}\n")
 
 
-def plant(scratch, mark, changed):
-    """Writes the definitions, some of them changed, and the facts about them under the names of a slip."""
+def plant(scratch, mark, crate, changed):
+    """Writes the definitions, some of a crate changed, and the facts about them under the names of a slip."""
     folder = f"{scratch}/crates/planted"
-    for it in DEFINITIONS:
-        text = changed.get(f"specs/{it}.antt") or read(f"{ROOT}/crates/page/specs/{it}.antt")
-        write(f"{folder}/specs/{mark}{it}.antt", renamed(text, mark))
+    for name, it in MODULES:
+        text = (changed.get(f"specs/{it}.antt") if name == crate else "") or read(f"{ROOT}/crates/{name}/specs/{it}.antt")
+        write(f"{folder}/specs/{mark}{name.title()}{it}.antt", renamed(text, mark))
     for it in FACTS:
         write(f"{folder}/specs/{mark}Worked{it}.antt", renamed(read(f"{ROOT}/crates/worked/specs/{it}.antt"), mark))
     for it in PROOFS:
@@ -74,7 +76,7 @@ def plant(scratch, mark, changed):
 
 def declare(scratch, marks):
     folder = f"{scratch}/crates/planted"
-    write(f"{folder}/specs/Lib.antt", "".join(f"pub mod {mark}{it}\n" for mark in marks for it in [*DEFINITIONS, *(f"Worked{it}" for it in FACTS)]))
+    write(f"{folder}/specs/Lib.antt", "".join(f"pub mod {mark}{it}\n" for mark in marks for it in [*(f"{name.title()}{it}" for name, it in MODULES), *(f"Worked{it}" for it in FACTS)]))
     write(f"{folder}/proofs/Lib.antt", "".join(f"pub mod {mark}{it}\n" for mark in marks for it in PROOFS))
 
 
@@ -98,27 +100,38 @@ def failed(scratch, said):
     return facts
 
 
+def edits_like(only):
+    """The edits of the definitions that are copied, by their crate."""
+    found = []
+    for name, modules in DEFINITIONS.items():
+        for it in plant_bugs.edits_of(name):
+            _, _, pairs = plant_bugs.read_edit(f"{ROOT}/planted/{name}/{it}")
+            if re.search(only, it) and all(file in [f"specs/{module}.antt" for module in modules] for file, _, _ in pairs):
+                found.append((name, it))
+    return found
+
+
 def main(words):
     scratch, only = "/tmp/planted_facts", ""
     while words:
         scratch, only, words = (words[1], only, words[2:]) if words[0] == "--scratch" else (scratch, words[1], words[2:])
-    edits = [it for it in plant_bugs.edits_of("page") if it.startswith("spec_") and re.search(only, it)]
+    edits = edits_like(only)
     prepare(scratch)
-    plant(scratch, "S0", {})
-    for number, edit in enumerate(edits, 1):
-        _, _, pairs = plant_bugs.read_edit(f"{ROOT}/planted/page/{edit}")
-        plant(scratch, f"S{number}", plant_bugs.applied(f"{ROOT}/crates/page", pairs))
+    plant(scratch, "S0", "", {})
+    for number, (name, edit) in enumerate(edits, 1):
+        _, _, pairs = plant_bugs.read_edit(f"{ROOT}/planted/{name}/{edit}")
+        plant(scratch, f"S{number}", name, plant_bugs.applied(f"{ROOT}/crates/{name}", pairs))
     declare(scratch, [f"S{it}" for it in range(len(edits) + 1)])
     ran = subprocess.run([*plant_bugs.RT, "check"], cwd=f"{scratch}/crates/planted", stdout=subprocess.PIPE, stderr=subprocess.STDOUT, text=True)
     facts, results = failed(scratch, ran.stdout), plant_bugs.known()
     if "S0" in facts or "logic=" not in ran.stdout.split("\n")[-2]:
         print(f"nothing is judged: {facts.get('S0') or ran.stdout[-400:]}")
         return 1
-    for number, edit in enumerate(edits, 1):
+    for number, key in enumerate(edits, 1):
         found = ", ".join(f"`{it}`" for it in facts.get(f"S{number}", [])[:5])
-        print(f"page/{edit}: {found or 'all facts hold'}")
-        if found:
-            results["page", edit] = "fact", f"in `worked`: {found}"
+        print(f"{'/'.join(key)}: {found or 'all facts hold'}")
+        if found and results.get(key, ("",))[0] != "false":
+            results[key] = "fact", f"in `worked`: {found}"
     plant_bugs.keep(results)
     return 0
 

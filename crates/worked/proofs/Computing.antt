@@ -7,6 +7,7 @@ use Rattle.screen.specs.Screen.{full, mark_at, on_row, place_col, place_row, pla
 use Rattle.std.specs.Fmt.{digits}
 use Rattle.std.specs.Str.{chars}
 use Rattle.worked.proofs.Paging.{worked-pages}
+use Rattle.worked.proofs.Reading.{worked-parameters}
 use Rattle.worked.proofs.Refusing.{worked-rules}
 use Rattle.worked.proofs.Writing.{worked-writes}
 use Rattle.worked.proofs.Stepping.{worked-asks, worked-runs, worked-steps}
@@ -70,4 +71,4 @@ worked-drops = record {
 }
 
 pub worked-proof : WorkedFacts
-worked-proof = record { places = worked-places; writes = worked-writes; pages = worked-pages; rules = worked-rules; asks = λ t z. worked-asks (world_of t) z; steps = λ t z. worked-steps (world_of t) z; runs = λ t z. worked-runs (world_of t) z; brackets = worked-brackets; halves = worked-halves; wrap = worked-wrap; marks = worked-marks; drops = worked-drops }
+worked-proof = record { places = worked-places; writes = worked-writes; pages = worked-pages; rules = worked-rules; asks = λ t z. worked-asks (world_of t) z; steps = λ t z. worked-steps (world_of t) z; runs = λ t z. worked-runs (world_of t) z; brackets = worked-brackets; halves = worked-halves; wrap = worked-wrap; marks = worked-marks; drops = worked-drops; parameters = worked-parameters }

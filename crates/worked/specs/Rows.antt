@@ -1,9 +1,10 @@
 -- What bytes do to wide characters and marks, on a blank screen of five columns with the Eastern table. Assumes nothing.
-use Rattle.std.specs.Prelude.{◌≡◌, ℕ, List, [], ◌∷◌, ◌++◌, map, Some, None, codes}
+use Rattle.std.specs.Prelude.{◌≡◌, ℕ, true, false, List, [], ◌∷◌, ◌++◌, map, Some, None, codes}
 use Rattle.std.proofs.Math.Utf8.{encode}
 use Rattle.screen.specs.Bytes.{feed}
 use Rattle.screen.specs.Places.{spot_of}
 use Rattle.screen.specs.Screen.{Screen, blank_screen}
+use Rattle.screen.specs.Sequences.{are_parameters}
 use Rattle.screen.specs.declared.cells.Cell.{Cell}
 use Rattle.screen.specs.declared.cells.Cell.TheVariants.{Blank, Glyph, RightHalf}
 use Rattle.widths.specs.Widths.{eastern}
@@ -64,6 +65,11 @@ pub record WorkedMarks : Type 0 where
   pub after-style : row_after 0 (97 ∷ 27 ∷ codes "[1m" ++ acute_bytes) ≡ accented 97 ∷ Blank ∷ Blank ∷ Blank ∷ Blank ∷ []
   pub after-move : row_after 0 (97 ∷ 27 ∷ codes "[A" ++ acute_bytes) ≡ alone 97 ∷ Blank ∷ Blank ∷ Blank ∷ Blank ∷ []
   pub after-torn : row_after 0 (97 ∷ 204 ∷ 27 ∷ codes "[m" ++ acute_bytes) ≡ alone 97 ∷ Blank ∷ Blank ∷ Blank ∷ Blank ∷ []
+
+-- the bytes that the law about control sequences takes as parameters: 0x30 to 0x3F
+pub record WorkedParameters : Type 0 where
+  pub all : are_parameters (codes "0123456789:;<=>?") ≡ true
+  pub others : map (λ b. are_parameters (b ∷ [])) (0x2F ∷ 0x40 ∷ []) ≡ false ∷ false ∷ []
 
 -- a control, dropped bytes, erasing and mode 2026 end the joining; bytes that are no UTF-8 draw nothing, but one that ends a character too soon counts for itself; a byte behind ESC draws nothing; a move stops at the last column
 pub record WorkedDrops : Type 0 where

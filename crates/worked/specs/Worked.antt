@@ -4,7 +4,7 @@ use Rattle.page.specs.Page.{Page}
 use Rattle.worked.specs.Brackets.{WorkedBrackets}
 use Rattle.worked.specs.Pages.{WorkedPages}
 use Rattle.worked.specs.Places.{WorkedPlaces}
-use Rattle.worked.specs.Rows.{WorkedDrops, WorkedHalves, WorkedMarks, WorkedWrap}
+use Rattle.worked.specs.Rows.{WorkedDrops, WorkedHalves, WorkedMarks, WorkedParameters, WorkedWrap}
 use Rattle.worked.specs.Rules.{WorkedRules}
 use Rattle.worked.specs.Steps.{Tests, WorkedAsks, WorkedRuns, WorkedSteps, world_of}
 use Rattle.worked.specs.Writes.{WorkedWrites}
@@ -23,3 +23,4 @@ pub record WorkedFacts : Type 0 where
   pub wrap : WorkedWrap
   pub marks : WorkedMarks
   pub drops : WorkedDrops
+  pub parameters : WorkedParameters
