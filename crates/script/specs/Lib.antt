@@ -3,3 +3,4 @@ pub mod Numbers
 pub mod Fields
 pub mod Wrongs
 pub mod Defaults
+pub mod Acts

@@ -1,5 +1,8 @@
 // The fields of a line: words, numbers and quoted strings, with blanks between them.
-ghost use Rattle.std.specs.Prelude.{◌≡◌, ◌<◌, ◌==◌, true, [], length, MatchResult};
+ghost use Rattle.std.specs.Prelude.{◌≡◌, ◌<◌, ◌==◌, true, [], length, MatchResult, Some, None, vec_items, ◌⊎◌};
+ghost use Rattle.std.specs.Result.{result_ok};
+ghost use Rattle.script.specs.Acts.{number_at, small_at, string_at, last_number_at, last_small_at, last_string_at};
+ghost use Rattle.script.specs.declared.error.Wrong.TheVariants.{Memory, More};
 ghost use Rattle.script.specs.Fields.{is_blank, run_of, behind_run, first_word, behind_word};
 
 use crate::error::Wrong;
@@ -36,7 +39,7 @@ fn run_len(text: &[u8], blank: bool) -> usize
 #[derive(Drop)]
 pub(crate) struct Fields<'a> {
     pub(crate) heap: Global,
-    rest: &'a [u8],
+    pub(crate) rest: &'a [u8],
 }
 
 impl<'a> Fields<'a> {
@@ -64,17 +67,25 @@ impl<'a> Fields<'a> {
     }
 
     // The number that comes next.
-    pub(crate) fn number(&mut self) -> Result<usize, Wrong> {
+    pub(crate) fn number(&mut self) -> Result<usize, Wrong>
+        ensures value { result_ok result ≡ number_at self.old.rest.now }
+        ensures rest { self.new.rest.now ≡ behind_word self.old.rest.now }
+    {
         Ok(read_number(self.word())?)
     }
 
     // The number that comes next, at most 65,535.
-    pub(crate) fn small(&mut self) -> Result<u16, Wrong> {
+    pub(crate) fn small(&mut self) -> Result<u16, Wrong>
+        ensures value { result_ok result ≡ small_at self.old.rest.now }
+        ensures rest { self.new.rest.now ≡ behind_word self.old.rest.now }
+    {
         u16::try_from(self.number()?).map_err(|_| Wrong::Range)
     }
 
     // The bytes of the quoted string that comes next.
-    pub(crate) fn string(&mut self) -> Result<Vec<u8>, Wrong> {
+    pub(crate) fn string(&mut self) -> Result<Vec<u8>, Wrong>
+        ensures { MatchResult result (λ bytes. string_at self.old.rest.now ≡ Some (vec_items bytes, self.new.rest.now)) (λ wrong. (wrong ≡ Memory) ⊎ (string_at self.old.rest.now ≡ None)) }
+    {
         let (_, behind) = split_run(self.rest, true);
         let inner = behind.strip_prefix(b"\"").ok_or(Wrong::NoString)?;
         let quoted = read_quoted(self.heap, inner)?;
@@ -92,7 +103,7 @@ impl<'a> Fields<'a> {
 
     // Refuses a line on which more is left.
     pub(crate) fn end(&self) -> Result<(), Wrong>
-        ensures { MatchResult result (λ _. behind_run true self.now.rest.now ≡ []) (λ wrong. (wrong ≡ Wrong.More) × (0 < length (behind_run true self.now.rest.now))) }
+        ensures { MatchResult result (λ _. behind_run true self.now.rest.now ≡ []) (λ wrong. (wrong ≡ More) × (0 < length (behind_run true self.now.rest.now))) }
     {
         if self.is_empty() {
             Ok(())
@@ -102,14 +113,27 @@ impl<'a> Fields<'a> {
     }
 
     // The one number that is left.
-    pub(crate) fn last_number(&mut self) -> Result<usize, Wrong> {
+    pub(crate) fn last_number(&mut self) -> Result<usize, Wrong>
+        ensures { result_ok result ≡ last_number_at self.old.rest.now }
+    {
         let number = self.number()?;
         self.end()?;
         Ok(number)
     }
 
+    // The one number that is left, at most 65,535.
+    pub(crate) fn last_small(&mut self) -> Result<u16, Wrong>
+        ensures { result_ok result ≡ last_small_at self.old.rest.now }
+    {
+        let number = self.small()?;
+        self.end()?;
+        Ok(number)
+    }
+
     // The one string that is left.
-    pub(crate) fn last_string(&mut self) -> Result<Vec<u8>, Wrong> {
+    pub(crate) fn last_string(&mut self) -> Result<Vec<u8>, Wrong>
+        ensures { MatchResult result (λ bytes. last_string_at self.old.rest.now ≡ Some (vec_items bytes)) (λ wrong. (wrong ≡ Memory) ⊎ (last_string_at self.old.rest.now ≡ None)) }
+    {
         let string = self.string()?;
         self.end()?;
         Ok(string)

@@ -1,7 +1,7 @@
 // A script, read line by line.
 ghost use Rattle.std.specs.Prelude.{IsOkUnless};
 
-use crate::act::{ScriptAct, ScriptLine};
+use crate::act::{ScriptAct, ScriptLine, Verb};
 use crate::error::{ScriptError, Wrong};
 use crate::fields::Fields;
 use crate::settings::{Setting, Settings};
@@ -24,7 +24,8 @@ impl Script {
             return Ok(());
         }
         let name = std::str::from_utf8(word)?;
-        if let Some(act) = ScriptAct::read(name, &mut fields)? {
+        if let Some(verb) = Verb::named(name) {
+            let act = ScriptAct::read(verb, &mut fields)?;
             self.acts.push(ScriptLine { line, act })?;
             return Ok(());
         }
