@@ -1,5 +1,5 @@
 -- What the fields of a line say, and which act they make behind a verb. Assumes nothing.
-use Rattle.std.specs.Prelude.{ℕ, Bool, true, cond, ◌==◌, nat_lt, ◌^◌, List, [], ◌∷◌, length, Some, None, Option, codes, vec_items}
+use Rattle.std.specs.Prelude.{ℕ, Bool, true, cond, ◌==◌, nat_lt, ◌^◌, List, [], ◌∷◌, length, Some, None, Option, vec_items}
 use Rattle.script.specs.Fields.{behind_run, first_word, behind_word}
 use Rattle.script.specs.Numbers.{number_of}
 use Rattle.script.specs.Strings.{Reading, meant, unclosed, misspelt, read_from}
@@ -79,18 +79,6 @@ last_small_at text = given (small_at text) (λ n. ended n (behind_word text))
 
 abbrev pub last_string_at : List ℕ → Option (List ℕ)
 last_string_at text = given (string_at text) (λ s. ended s.0 s.1)
-
--- the word of each verb
-abbrev pub verb_name : Verb → List ℕ
-verb_name verbs.Create = codes "create"
-verb_name verbs.Insert = codes "insert"
-verb_name verbs.Set = codes "set"
-verb_name verbs.Go = codes "go"
-verb_name verbs.Refresh = codes "refresh"
-verb_name verbs.Message = codes "message"
-verb_name verbs.Notice = codes "notice"
-verb_name verbs.Clear = codes "clear"
-verb_name verbs.Finish = codes "finish"
 
 -- the act that a verb and the fields behind it say; none where they say none
 abbrev pub act_of : Verb → List ℕ → Option Deed

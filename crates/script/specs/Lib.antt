@@ -4,3 +4,5 @@ pub mod Fields
 pub mod Wrongs
 pub mod Defaults
 pub mod Acts
+pub mod Settings
+pub mod Scripts

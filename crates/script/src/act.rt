@@ -1,6 +1,7 @@
 // The acts of a script.
-ghost use Rattle.std.specs.Prelude.{◌≡◌, ◌↔◌, Some, None, MatchResult, ◌⊎◌};
-ghost use Rattle.script.specs.Acts.{act_of, deed_of, verb_name};
+ghost use Rattle.std.specs.Prelude.{◌≡◌, Some, None, MatchResult, ◌⊎◌};
+ghost use Rattle.script.specs.Acts.{act_of, deed_of};
+ghost use Rattle.script.specs.Scripts.{verb_of};
 ghost use Rattle.script.specs.declared.error.Wrong.TheVariants.{Memory};
 
 use crate::error::Wrong;
@@ -45,7 +46,7 @@ pub(crate) enum Verb {
 impl Verb {
     // The verb that a word is. No `FromStr`: an error would say no more than `None`.
     pub(crate) fn named(name: &str) -> Option<Verb>
-        ensures { (verb : Verb) → (result ≡ Some verb) ↔ (name.now ≡ verb_name verb) }
+        ensures { result ≡ verb_of name.now }
     {
         Some(match name {
             "create" => Verb::Create,

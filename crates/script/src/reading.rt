@@ -1,5 +1,6 @@
 // A script, read line by line.
 ghost use Rattle.std.specs.Prelude.{IsOkUnless};
+ghost use Rattle.script.specs.Scripts.{said_by, with_line, Adds};
 
 use crate::act::{ScriptAct, ScriptLine, Verb};
 use crate::error::{ScriptError, Wrong};
@@ -18,7 +19,9 @@ pub struct Script {
 
 impl Script {
     // One line.
-    fn read_line(&mut self, line: usize, mut fields: Fields<'_>) -> Result<(), Wrong> {
+    fn read_line(&mut self, line: usize, mut fields: Fields<'_>) -> Result<(), Wrong>
+        ensures { Adds (with_line line fields.entry.rest.now (said_by self.old)) self.old self.new result }
+    {
         let word = fields.word();
         if word.is_empty() || word[0] == b'#' {
             return Ok(());
