@@ -1,7 +1,8 @@
 // A script, read line by line.
 ghost use Rattle.std.specs.Prelude.{IsOkUnless};
+ghost use Rattle.script.specs.Scripts.{said_by, with_line, Adds};
 
-use crate::act::{ScriptAct, ScriptLine};
+use crate::act::{ScriptAct, ScriptLine, Verb};
 use crate::error::{ScriptError, Wrong};
 use crate::fields::Fields;
 use crate::settings::{Setting, Settings};
@@ -18,13 +19,16 @@ pub struct Script {
 
 impl Script {
     // One line.
-    fn read_line(&mut self, line: usize, mut fields: Fields<'_>) -> Result<(), Wrong> {
+    fn read_line(&mut self, line: usize, mut fields: Fields<'_>) -> Result<(), Wrong>
+        ensures { Adds (with_line line fields.entry.rest.now (said_by self.old)) self.old self.new result }
+    {
         let word = fields.word();
         if word.is_empty() || word[0] == b'#' {
             return Ok(());
         }
         let name = std::str::from_utf8(word)?;
-        if let Some(act) = ScriptAct::read(name, &mut fields)? {
+        if let Some(verb) = Verb::named(name) {
+            let act = ScriptAct::read(verb, &mut fields)?;
             self.acts.push(ScriptLine { line, act })?;
             return Ok(());
         }
