@@ -174,8 +174,8 @@ fn climb((up, col, bytes): Climb) -> Case {
 
 #[test]
 fn draws(rt: HostRuntime) -> Result<(), Fail> {
-    for case in &CASES {
-        assert!(rt; is_drawn(case, record(rt.alloc())?)?);
+    for case in CASES {
+        assert!(rt; is_drawn(&case, record(rt.alloc())?)?);
     }
     for case in CLIMBS {
         assert!(rt; is_drawn(&climb(case), record(rt.alloc())?)?);

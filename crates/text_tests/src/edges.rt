@@ -1,5 +1,6 @@
 // The first and the last character of each range, the places between characters, and the refusals.
 use std::alloc::{AllocError, Global};
+use std::test::Fail;
 use text::decode::{char_at, is_control, is_good};
 use text::refusal::Refusal;
 use text::texts::{check_text, is_boundary};
@@ -36,7 +37,7 @@ const REFUSALS: [(Refusal, u8, &str); 7] = [
 ];
 
 #[test]
-fn edges_are_read(rt: HostRuntime) -> Result<(), AllocError> {
+fn edges_are_read(rt: HostRuntime) -> Result<(), Fail> {
     for (code, bytes, control) in EDGES {
         assert!(rt; is_read(code, bytes, control));
     }

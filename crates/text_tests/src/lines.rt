@@ -29,13 +29,9 @@ const LENGTHS: [(&[u8], usize, Result<(), Refusal>); 5] = [
 fn lines_and_lengths(rt: HostRuntime) {
     for (bytes, lines) in LINES {
         let count = Lines::new(bytes).count();
-        assert!(rt; count == lines.len() && are_lines(bytes, lines));
+        assert!(rt; count == lines.len() && Lines::new(bytes).eq(lines.iter().copied()));
     }
     for (bytes, most, answer) in LENGTHS {
         assert!(rt; check_text_within(bytes, most) == answer);
     }
-}
-
-fn are_lines(bytes: &[u8], lines: &[&[u8]]) -> bool {
-    Lines::new(bytes).eq(lines.iter().copied())
 }
