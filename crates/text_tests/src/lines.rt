@@ -24,17 +24,14 @@ const LENGTHS: [(&[u8], usize, Result<(), Refusal>); 5] = [
     (b"", 0, Ok(())),
 ];
 
+// Lines end at LF.
 #[test]
 fn lines_and_lengths(rt: HostRuntime) {
     for (bytes, lines) in LINES {
-        assert!(rt; are_lines(bytes, lines));
+        let count = Lines::new(bytes).count();
+        assert!(rt; count == lines.len() && Lines::new(bytes).eq(lines.iter().copied()));
     }
     for (bytes, most, answer) in LENGTHS {
         assert!(rt; check_text_within(bytes, most) == answer);
     }
-}
-
-// Lines end at LF.
-fn are_lines(bytes: &[u8], lines: &[&[u8]]) -> bool {
-    Lines::new(bytes).count() == lines.len() && Lines::new(bytes).eq(lines.iter().copied())
 }
