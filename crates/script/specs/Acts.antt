@@ -1,5 +1,5 @@
 -- What the fields of a line say, and which act they make behind a verb. Assumes nothing.
-use Rattle.std.specs.Prelude.{ℕ, Bool, true, cond, ◌==◌, nat_lt, ◌^◌, List, [], ◌∷◌, length, Some, None, Option, vec_items}
+use Rattle.std.specs.Prelude.{ℕ, true, cond, ◌==◌, nat_lt, ◌^◌, List, [], ◌∷◌, length, Some, None, Option, vec_items}
 use Rattle.script.specs.Fields.{behind_run, first_word, behind_word}
 use Rattle.script.specs.Numbers.{number_of}
 use Rattle.script.specs.Strings.{Reading, meant, unclosed, misspelt, read_from}

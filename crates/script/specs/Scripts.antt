@@ -1,17 +1,20 @@
 -- What the lines of a script say. Assumes nothing.
-use Rattle.std.specs.Prelude.{◌≡◌, ℕ, ◌⊎◌, cond, ◌==◌, List, [], ◌∷◌, ◌++◌, length, map, Some, None, Ok, Err, Option, Result, codes, vec_items}
+use Rattle.std.specs.Prelude.{◌≡◌, ℕ, ◌+◌, ◌⊎◌, cond, ◌==◌, List, [], ◌∷◌, ◌++◌, length, map, Some, None, Ok, Err, Option, Result, codes, vec_items}
 use Rattle.std.specs.Str.{bytes_eq}
 use Rattle.script.specs.Acts.{Deed, deed_of, given, act_of}
+use Rattle.script.specs.Defaults.{IsDefault}
 use Rattle.script.specs.Fields.{first_word, behind_word}
 use Rattle.script.specs.Settings.{Setup, setup_of, change_of}
 use Rattle.script.specs.declared.act.ScriptLine.{ScriptLine}
 use Rattle.script.specs.declared.act.Verb.{Verb}
 use Rattle.script.specs.declared.act.Verb.TheVariants as verbs
+use Rattle.script.specs.declared.error.ScriptError.{ScriptError}
 use Rattle.script.specs.declared.error.Wrong.{Wrong}
 use Rattle.script.specs.declared.error.Wrong.TheVariants.{Memory, BadWord}
 use Rattle.script.specs.declared.reading.Script.{Script}
 use Rattle.script.specs.declared.settings.Setting.{Setting}
 use Rattle.script.specs.declared.settings.Setting.TheVariants as settings
+use Rattle.text.specs.Lines.{lines_of}
 
 -- the settings, and the acts with their lines
 pub record Said : Type 0 where
@@ -79,3 +82,23 @@ with_line n line s = with_word (first_word line) n (behind_word line) s
 abbrev pub Adds : Option Said → Script → Script → Result (Unit {0}) Wrong → Type 0
 Adds wanted old new (Ok u) = wanted ≡ Some (said_by new)
 Adds wanted old new (Err wrong) = ((wrong ≡ Memory) ⊎ ((wrong ≡ BadWord) ⊎ (wanted ≡ None))) × (said_by new ≡ said_by old)
+
+-- what lines say, one after the other: of none the default settings and no acts
+pub data Say : List (List ℕ) → Said → Type 0 where
+  nothing : (script : Script) → IsDefault script.settings → vec_items script.acts ≡ [] → Say [] (said_by script)
+  more : (lines : List (List ℕ)) (line : List ℕ) (s t : Said) → Say lines s → with_line (length lines + 1) line s ≡ Some t → Say (lines ++ line ∷ []) t
+
+-- a script is read up to a line, which is wrong
+pub record Stops (text : List ℕ) (script : Script) (e : ScriptError) : Type 0 where
+  pub before : List (List ℕ)
+  pub line : List ℕ
+  pub behind : List (List ℕ)
+  pub lines : before ++ line ∷ behind ≡ lines_of text
+  pub number : e.line ≡ length before + 1
+  pub said : Say before (said_by script)
+  pub wrong : (e.wrong ≡ Memory) ⊎ ((e.wrong ≡ BadWord) ⊎ (with_line e.line line (said_by script) ≡ None))
+
+-- what a text means as a script: what all of its lines say, or the lines before the one that is told
+abbrev pub Means : List ℕ → Script → Option ScriptError → Type 0
+Means text script None = Say (lines_of text) (said_by script)
+Means text script (Some e) = Stops text script e
