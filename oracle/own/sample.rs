@@ -102,6 +102,26 @@ const WRITTEN: [(&str, &str); 19] = [
     ("finish", include_str!("../sample/finish.acts")),
 ];
 
+/// scripts at limits where one refusal comes before another, and of the longest block
+fn orders() -> Vec<(&'static str, String)> {
+    let n = |c: &str, k: usize| c.repeat(k);
+    let (long, longer) = (n("a", 4096), n("a", 4097));
+    let mut v = vec![];
+    for (rows, prompt) in [(1, "\\t"), (1, "abcd"), (1, "abcde"), (1, "abcdefg\\e"), (2, "abcde"), (2, "abcdefghi"), (2, "abcdefghij")] {
+        v.push(("a prompt that fits, one that is too high, and one that is not good", format!("size 5 {rows}\nprompt \"{prompt}\"\ncreate\n")));
+    }
+    for table in ["latin", "eastern"] { v.push(("a prompt that fits by one table alone", format!("size 2 1\ntable {table}\nprompt \"\\xE4\\xB8\\xAD\"\ncreate\n"))); }
+    v.push(("a styled form that shows less", "size 5 1\ncolours on\nprompt \"> \" \"\\e[1m>\\e[0m\"\ncreate\n".into()));
+    for k in [512, 513] { v.push(("a prompt of 512 bytes in two rows of 500, and one of 513", format!("size 500 2\nprompt \"{}\"\ncreate\n", n("p", k)))); }
+    v.push(("a line that is bad, too long or has no such position", format!("size 500 24\ncreate\nset \"{long}\" 4096\ninsert \"a\" 1\ninsert \"a\" 0\nset \"{longer}\" 0\nset \"{longer}\" 9999\nset \"{long}\\t\" 9999\nset \"{long}\" 4097\nset \"{}\" 0\ninsert \"\\xC3\\xA9\" 1\ninsert \"a\" 2\ninsert \"a\" 1\ngo 4096\nset \"\" 0\ninsert \"a\" 4097\ninsert \"a\" 65535\ninsert \"a\" 4096\n", n("a", 4095))));
+    let message = n("a", 1024);
+    v.push(("a message and a notice that are bad or too long", format!("size 500 24\ncreate\nmessage \"{message}\"\nmessage \"{message}a\"\nmessage \"{message}\\e\"\nnotice \"{long}\"\nnotice \"{longer}\"\nnotice \"{message}\\e{}\"\n", n("a", 3072))));
+    let feeds = n("\\n", 199);
+    v.push(("a line that ends in the last of 200 rows", format!("size 500 200\ncreate\nset \"{feeds}\\n\" 0\nset \"{feeds}\\n\" 201\nset \"{feeds}\" 0\ninsert \"\\n\" 1\ninsert \"\\n\" 0\nmessage \"m\"\nmessage \"\\n\"\ngo 199\nnotice \"n\"\n")));
+    for rows in [12, 11] { v.push(("the longest block takes 12 rows of 500", format!("size 500 {rows}\nprompt \"{}\"\ncreate\nset \"{long}\" 0\nmessage \"{message}\"\n", n("p", 512)))); }
+    v
+}
+
 /// cases of `calculate_position`: the crate's answer where ours is equal, else ours
 fn places(out: &mut String) -> usize {
     let mut n = 0;
@@ -157,6 +177,8 @@ pub fn main(seed: u64) {
         let kind = if script.contains("\nfault ") { Kind::Faults } else { Kind::Limits };
         w += acts(&mut out, &format!("oracle/sample/{name}.acts"), script.as_bytes(), usize::MAX, kind, true);
     }
-    eprintln!("{} acts, {p} measured texts, {b} brackets, {w} acts with screens", n + made);
+    let mut o = 0;
+    for (told, script) in orders() { o += acts(&mut out, told, script.as_bytes(), usize::MAX, Kind::Limits, false); }
+    eprintln!("{} acts, {p} measured texts, {b} brackets, {w} acts with screens, {o} acts at limits", n + made);
     std::print!("{out}");
 }

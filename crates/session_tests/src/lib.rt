@@ -1,9 +1,9 @@
-//! Tests of sessions at their limits, on terminals that the check did not mean, and of runs. What a session draws is compared by the
-//! program `replay`.
+//! Tests of what no script says: sizes that a check refuses, sessions on terminals that the check did not mean, and what a run tells.
+//! What sessions draw and refuse is compared by the program `replay`.
 #![tactic(auto)]
 
 #[cfg(test)]
-mod limits;
+mod sizes;
 #[cfg(test)]
 mod stage;
 #[cfg(test)]
