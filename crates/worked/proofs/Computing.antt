@@ -1,13 +1,11 @@
 -- The examples, computed.
 use lib.Utf8.{encode}
 use Rattle.std.proofs.Common.{refl}
-use Rattle.page.specs.Page.{Page}
 use Rattle.screen.specs.Bytes.{act, begin, finish, move, step_in}
 use Rattle.screen.specs.Screen.{full, mark_at, on_row, place_col, place_row, placed, put_pen, split, wipe_from}
-use Rattle.std.specs.Fmt.{digits}
-use Rattle.std.specs.Str.{chars}
 use Rattle.worked.proofs.Paging.{worked-pages}
 use Rattle.worked.proofs.Reading.{worked-parameters}
+use Rattle.worked.proofs.Readying.{worked-ready}
 use Rattle.worked.proofs.Refusing.{worked-rules}
 use Rattle.worked.proofs.Writing.{worked-writes}
 use Rattle.worked.proofs.Stepping.{worked-asks, worked-runs, worked-steps}
@@ -16,7 +14,6 @@ use Rattle.worked.specs.Places.{WorkedPlaces}
 use Rattle.worked.specs.Rows.{WorkedDrops, WorkedHalves, WorkedMarks, WorkedWrap}
 use Rattle.worked.specs.Steps.{world_of}
 use Rattle.worked.specs.Worked.{WorkedFacts}
-use Rattle.worked.specs.Writes.{WorkedWrites}
 
 worked-places : WorkedPlaces
 unfolding put_pen place_row place_col full
@@ -71,4 +68,4 @@ worked-drops = record {
 }
 
 pub worked-proof : WorkedFacts
-worked-proof = record { places = worked-places; writes = worked-writes; pages = worked-pages; rules = worked-rules; asks = λ t z. worked-asks (world_of t) z; steps = λ t z. worked-steps (world_of t) z; runs = λ t z. worked-runs (world_of t) z; brackets = worked-brackets; halves = worked-halves; wrap = worked-wrap; marks = worked-marks; drops = worked-drops; parameters = worked-parameters }
+worked-proof = record { places = worked-places; writes = worked-writes; pages = worked-pages; rules = worked-rules; asks = λ t z. worked-asks (world_of t) z; steps = λ t z. worked-steps (world_of t) z; runs = λ t z. worked-runs (world_of t) z; brackets = worked-brackets; halves = worked-halves; wrap = worked-wrap; marks = worked-marks; drops = worked-drops; parameters = worked-parameters; ready = worked-ready }

@@ -1,3 +1,4 @@
+pub mod Readying
 pub mod Reading
 pub mod Writing
 pub mod Paging
