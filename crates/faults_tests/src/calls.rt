@@ -3,7 +3,6 @@ use faults::fault::{Fault, answer_at, course_of};
 use faults::faulty::Faulty;
 use std::alloc::Global;
 use std::ops::ControlFlow;
-use std::test::Fail;
 use terminal::pacer::Pacer;
 use terminal::record::Record;
 use terminal::size::Size;
@@ -15,9 +14,10 @@ const DOWN: WriteAnswer = Err(WriteError::Down);
 const INTERRUPTED: WriteAnswer = Err(WriteError::Interrupted);
 
 // A record of 100 bytes with some faults.
-fn faulty(heap: Global, faults: &[Fault]) -> Result<Faulty<Record<Latin>>, Fail> {
-    let log = Record::new(Latin, vec![in heap; 0; 100]?, Size::new(5, 3)?);
-    Ok(Faulty::new(log, Vec::from_slice(heap, faults)?, Vec::new(heap)))
+fn faulty(heap: Global, faults: &[Fault]) -> Option<Faulty<Record<Latin>>> {
+    let log = Record::new(Latin, vec![in heap; 0; 100].ok()?, Size::new(5, 3).ok()?);
+    let faults = Vec::from_slice(heap, faults).ok()?;
+    Some(Faulty::new(log, faults, Vec::new(heap)))
 }
 
 // Of two faults of one call the first counts; a call without one passes all on.
@@ -48,88 +48,138 @@ const FAULTS: [Fault; 6] = [
     },
 ];
 
-// The bytes offered, the answer, and the log then.
-const CALLS: [(&[u8], WriteAnswer, &[u8]); 8] = [
-    (b"abc", Ok(3), b"abc"),
-    (b"def", DOWN, b"abc"),
-    (b"def", INTERRUPTED, b"abc"),
-    (b"def", Ok(2), b"abcde"),
-    (b"fgh", Ok(0), b"abcde"),
-    (b"fgh", Ok(3), b"abcdefgh"),
-    (b"", Ok(0), b"abcdefgh"),
-    (b"i", Ok(1), b"abcdefghi"),
-];
-
-#[test]
-fn calls(rt: HostRuntime) -> Result<(), Fail> {
-    let mut terminal = faulty(rt.alloc(), &FAULTS)?;
-    for (number, (bytes, answer, log)) in CALLS.iter().enumerate() {
-        assert_eq!(rt; terminal.calls(), number);
-        assert_eq!(rt; terminal.write(bytes), *answer, "call {number}");
-        assert_eq!(rt; terminal.log.as_slice(), *log, "call {number}");
-        assert_eq!(rt; terminal.below.bytes(), *log, "call {number}");
-    }
-    terminal.empty_log();
-    assert!(rt; terminal.log.is_empty());
-    assert_eq!(rt; terminal.calls(), 8);
-    assert_eq!(rt; terminal.write(b"j"), Ok(1));
-    assert_eq!(rt; terminal.log.as_slice(), b"j".as_slice());
-    assert_eq!(rt; terminal.below.bytes(), b"abcdefghij".as_slice());
-    Ok(())
+// What is done with a terminal.
+enum Step {
+    // nothing yet
+    Begin,
+    // the bytes offered, and the answer
+    Write(&'static [u8], WriteAnswer),
+    EmptyLog,
 }
 
+// A step; how many calls have come, the log and the bytes below then.
+type Taken = (Step, usize, &'static [u8], &'static [u8]);
+
+const CALLS: [Taken; 11] = [
+    (Step::Begin, 0, b"", b""),
+    (Step::Write(b"abc", Ok(3)), 1, b"abc", b"abc"),
+    (Step::Write(b"def", DOWN), 2, b"abc", b"abc"),
+    (Step::Write(b"def", INTERRUPTED), 3, b"abc", b"abc"),
+    (Step::Write(b"def", Ok(2)), 4, b"abcde", b"abcde"),
+    (Step::Write(b"fgh", Ok(0)), 5, b"abcde", b"abcde"),
+    (Step::Write(b"fgh", Ok(3)), 6, b"abcdefgh", b"abcdefgh"),
+    (Step::Write(b"", Ok(0)), 7, b"abcdefgh", b"abcdefgh"),
+    (Step::Write(b"i", Ok(1)), 8, b"abcdefghi", b"abcdefghi"),
+    (Step::EmptyLog, 8, b"", b"abcdefghi"),
+    (Step::Write(b"j", Ok(1)), 9, b"j", b"abcdefghij"),
+];
+
+const MANY: [u8; 98] = [b'a'; 98];
+
+// The 100 bytes that the record has room for.
+const ALL: &[u8] =
+    b"aaaaaaaaaaaaaaaaaaaaaaaaaaaaaaaaaaaaaaaaaaaaaaaaaaaaaaaaaaaaaaaaaaaaaaaaaaaaaaaaaaaaaaaaaaaaaaaaaabc";
+
 // The terminal below may take fewer bytes, or be down: the log has what it took.
-#[test]
-fn full_below(rt: HostRuntime) -> Result<(), Fail> {
-    let mut terminal = faulty(rt.alloc(), &[])?;
-    assert_eq!(rt; terminal.write(&[b'a'; 98]), Ok(98));
-    terminal.empty_log();
-    assert_eq!(rt; terminal.write(b"bcd"), Ok(2));
-    assert_eq!(rt; terminal.write(b"d"), DOWN);
-    assert_eq!(rt; terminal.log.as_slice(), b"bc".as_slice());
-    Ok(())
+const FULL_BELOW: [Taken; 4] = [
+    (Step::Write(&MANY, Ok(98)), 1, &MANY, &MANY),
+    (Step::EmptyLog, 1, b"", &MANY),
+    (Step::Write(b"bcd", Ok(2)), 2, b"bc", ALL),
+    (Step::Write(b"d", DOWN), 3, b"bc", ALL),
+];
+
+fn same(bytes: &[u8], expected: &[u8]) -> bool {
+    bytes == expected
+}
+
+// Does one step, and tells whether all is as it should be.
+fn holds(terminal: &mut Faulty<Record<Latin>>, taken: &Taken) -> bool {
+    let (step, calls, log, below) = taken;
+    let answered = match step {
+        Step::Begin => true,
+        Step::Write(bytes, answer) => terminal.write(bytes) == *answer,
+        Step::EmptyLog => {
+            terminal.empty_log();
+            true
+        }
+    };
+    answered
+        && terminal.calls() == *calls
+        && same(terminal.log.as_slice(), log)
+        && same(terminal.below.bytes(), below)
+}
+
+// Whether all steps go as they should on a terminal with some faults.
+fn plays(heap: Global, faults: &[Fault], steps: &[Taken]) -> bool {
+    let Some(mut terminal) = faulty(heap, faults) else {
+        return false;
+    };
+    for taken in steps {
+        if !holds(&mut terminal, taken) {
+            return false;
+        }
+    }
+    true
 }
 
 // Calls are counted under the pacers, which pass on 32 bytes at most.
-#[test]
-fn under_pacers(rt: HostRuntime) -> Result<(), Fail> {
+fn paced(heap: Global) -> bool {
     let fault = Fault {
         call: 1,
         answer: Ok(5),
     };
-    let mut pacer = Pacer::new(Pacer::new(faulty(rt.alloc(), &[fault])?));
-    assert_eq!(rt; pacer.write(&[b'a'; 40]), Ok(32));
-    assert_eq!(rt; pacer.write(&[b'b'; 40]), Ok(5));
-    assert_eq!(rt; pacer.write(&[b'c'; 40]), Ok(32));
-    Ok(())
+    let Some(terminal) = faulty(heap, &[fault]) else {
+        return false;
+    };
+    let mut pacer = Pacer::new(Pacer::new(terminal));
+    pacer.write(&[b'a'; 40]) == Ok(32)
+        && pacer.write(&[b'b'; 40]) == Ok(5)
+        && pacer.write(&[b'c'; 40]) == Ok(32)
 }
 
-// What becomes of a call, by its fault, how many bytes are offered, and for how many there is room.
-const COURSES: [(
-    Option<WriteAnswer>,
-    usize,
-    usize,
-    Result<usize, WriteAnswer>,
-); 8] = [
-    (None, 3, 9, Ok(3)),
-    (None, 3, 2, Ok(2)),
-    (None, 3, 0, Err(DOWN)),
-    (None, 0, 0, Err(Ok(0))),
-    (Some(DOWN), 0, 9, Err(DOWN)),
-    (Some(INTERRUPTED), 3, 9, Err(INTERRUPTED)),
-    (Some(Ok(2)), 3, 9, Ok(2)),
-    (Some(Ok(0)), 3, 9, Err(Ok(0))),
+#[test]
+fn calls(rt: HostRuntime) {
+    assert!(rt; plays(rt.alloc(), &FAULTS, &CALLS));
+    assert!(rt; plays(rt.alloc(), &[], &FULL_BELOW));
+    assert!(rt; paced(rt.alloc()));
+}
+
+// What is asked, and what should come of it.
+enum Asked {
+    // what becomes of a call, by its fault, how many bytes are offered, and for how many there is room
+    Course(Option<WriteAnswer>, usize, usize, Result<usize, WriteAnswer>),
+    // the fault of a call
+    Answer(usize, Option<WriteAnswer>),
+}
+
+const ASKED: [Asked; 10] = [
+    Asked::Course(None, 3, 9, Ok(3)),
+    Asked::Course(None, 3, 2, Ok(2)),
+    Asked::Course(None, 3, 0, Err(DOWN)),
+    Asked::Course(None, 0, 0, Err(Ok(0))),
+    Asked::Course(Some(DOWN), 0, 9, Err(DOWN)),
+    Asked::Course(Some(INTERRUPTED), 3, 9, Err(INTERRUPTED)),
+    Asked::Course(Some(Ok(2)), 3, 9, Ok(2)),
+    Asked::Course(Some(Ok(0)), 3, 9, Err(Ok(0))),
+    Asked::Answer(3, Some(Ok(2))),
+    Asked::Answer(0, None),
 ];
+
+fn comes(asked: &Asked) -> bool {
+    match *asked {
+        Asked::Course(fault, offered, room, expected) => {
+            match course_of(fault, offered, room) {
+                ControlFlow::Continue(count) => expected == Ok(count),
+                ControlFlow::Break(answer) => expected == Err(answer),
+            }
+        }
+        Asked::Answer(call, expected) => answer_at(&FAULTS, call) == expected,
+    }
+}
 
 #[test]
 fn courses(rt: HostRuntime) {
-    for (fault, offered, room, expected) in COURSES {
-        let course = match course_of(fault, offered, room) {
-            ControlFlow::Continue(count) => Ok(count),
-            ControlFlow::Break(answer) => Err(answer),
-        };
-        assert_eq!(rt; course, expected, "{fault:?} {offered} {room}");
+    for (number, asked) in ASKED.iter().enumerate() {
+        assert!(rt; comes(asked), "case {number}");
     }
-    assert_eq!(rt; answer_at(&FAULTS, 3), Some(Ok(2)));
-    assert_eq!(rt; answer_at(&FAULTS, 0), None);
 }

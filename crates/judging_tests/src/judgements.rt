@@ -1,8 +1,7 @@
 // Which refusal comes first, and which hints fit. What is expected follows from the rules (docs/REFUSALS.md): 3, 4, 5, 6.
-use crate::places::{place, window};
+use crate::places::{Laid, at, laid, place, window};
 use judging::hints::fit_hint;
 use judging::judging::{Placed, judge_insert, judge_line, judge_message, judge_set};
-use layout::layout::Position;
 use lines::line_buffer::LineBuffer;
 use lines::note::Note;
 use measuring::measuring::Window;
@@ -13,88 +12,22 @@ use widths::tables::{Eastern, Latin};
 
 const LONG: [u8; 4097] = [b'a'; 4097];
 
-// A set is judged in a window of 5 columns and 2 rows, behind `> `.
-#[test]
-fn sets(rt: HostRuntime) -> Result<(), Fail> {
-    let mut bad = LONG;
-    bad[4096] = 7;
-    let cases: [(&[u8], usize, Option<Refusal>); 8] = [
-        (&bad, 9999, Some(Refusal::Text)),
-        (&LONG, 9999, Some(Refusal::Long)),
-        (&LONG[..4096], 4097, Some(Refusal::Place)),
-        (&LONG[..4096], 4096, Some(Refusal::Tall)),
-        (b"1234567\xc3\xa9", 8, Some(Refusal::Place)),
-        (b"12345678", 0, Some(Refusal::Tall)),
-        (b"1234567", 7, None),
-        (b"123\n\xc3\xa9", 6, None),
-    ];
-    for (line, pos, expected) in cases {
-        let ends = judge_set::<Latin>(window()?, line, pos);
-        assert_eq!(rt; ends.err(), expected, "{pos}");
-    }
-    let wide = judge_set::<Eastern>(window()?, b"12\xe4\xb8\xad3", 0);
-    assert!(rt; wide.is_ok());
-    let wider = judge_set::<Eastern>(window()?, b"12\xe4\xb8\xad345", 0);
-    assert_eq!(rt; wider.err(), Some(Refusal::Tall));
-    Ok(())
+// What is done with a text behind `> ` in a window of 5 columns and 2 rows: it is set with its edit position, also by the Eastern
+// table, inserted so many times at position 2 of `12345`, shown as a message below that line, or judged as a line is, with its
+// position and in so many rows.
+#[derive(Drop)]
+enum Deed {
+    Set(usize),
+    SetWide(usize),
+    Insert(u16),
+    Message,
+    Line(usize, u16),
 }
 
-// An insert is judged with the line that it makes; so is the line as it is.
-#[test]
-fn inserts(rt: HostRuntime) -> Result<(), Fail> {
+// A line with its edit position, judged in 5 columns and so many rows.
+fn judged(text: &[u8], pos: usize, rows: u16) -> Result<Result<Placed, Refusal>, Fail> {
     let mut line = LineBuffer::new();
-    line.update(b"12345", 2)?;
-    let cases: [(&[u8], u16, Option<Refusal>); 9] = [
-        (b"\t", 0, Some(Refusal::Text)),
-        (b"ab", 65535, Some(Refusal::Text)),
-        (b"", 1, Some(Refusal::Text)),
-        (b"a", 4092, Some(Refusal::Long)),
-        (b"a", 4091, Some(Refusal::Tall)),
-        (b"a", 3, Some(Refusal::Tall)),
-        (b"a", 2, None),
-        (b"a", 0, None),
-        (b"\xcc\x81", 2000, None),
-    ];
-    for (text, count, expected) in cases {
-        let ends = judge_insert::<Latin>(window()?, &line, text, count);
-        assert_eq!(rt; ends.err(), expected, "{text:?} {count}");
-    }
-    assert!(rt; judge_line::<Latin>(window()?, &line).is_ok());
-    line.update(b"12345678", 0)?;
-    assert_eq!(rt;
-        judge_line::<Latin>(window()?, &line).err(),
-        Some(Refusal::Tall)
-    );
-    Ok(())
-}
-
-// A message is judged with the line above it.
-#[test]
-fn messages(rt: HostRuntime) -> Result<(), Fail> {
-    let mut line = LineBuffer::new();
-    line.update(b"12345", 2)?;
-    let mut bad = LONG;
-    bad[1024] = 7;
-    let cases: [(&[u8], Option<Refusal>); 7] = [
-        (&bad, Some(Refusal::Text)),
-        (&LONG[..1025], Some(Refusal::Long)),
-        (&LONG[..1024], Some(Refusal::Tall)),
-        (b"678", Some(Refusal::Tall)),
-        (b"\n", Some(Refusal::Tall)),
-        (b"67", None),
-        (b"", None),
-    ];
-    for (text, expected) in cases {
-        let layout = judge_message::<Latin>(window()?, &line, text);
-        assert_eq!(rt; layout.err(), expected, "{text:?}");
-    }
-    Ok(())
-}
-
-// A line with the edit position at its end, judged behind `> ` in a window of 5 columns.
-fn judged(text: &[u8], rows: u16) -> Result<Result<Placed, Refusal>, Fail> {
-    let mut line = LineBuffer::new();
-    line.update(text, text.len())?;
+    line.update(text, pos)?;
     let window = Window {
         size: Size::new(5, rows)?,
         prompt: place((2, 0)),
@@ -102,46 +35,116 @@ fn judged(text: &[u8], rows: u16) -> Result<Result<Placed, Refusal>, Fail> {
     Ok(judge_line::<Latin>(window, &line))
 }
 
-// A hint that the window holds stays, and the block ends behind it; one that it does not hold is dropped.
+// Whether a deed with a text is refused as expected, or is not where nothing is expected.
+fn answers(deed: &Deed, text: &[u8], expected: Option<Refusal>) -> Result<bool, Fail> {
+    let window = window()?;
+    let mut line = LineBuffer::new();
+    line.update(b"12345", 2)?;
+    let refusal = match *deed {
+        Deed::Set(pos) => judge_set::<Latin>(window, text, pos).err(),
+        Deed::SetWide(pos) => judge_set::<Eastern>(window, text, pos).err(),
+        Deed::Insert(count) => judge_insert::<Latin>(window, &line, text, count).err(),
+        Deed::Message => judge_message::<Latin>(window, &line, text).err(),
+        Deed::Line(pos, rows) => judged(text, pos, rows)?.err(),
+    };
+    Ok(refusal == expected)
+}
+
+const SHORT_TEXTS: [(Deed, &[u8], Option<Refusal>); 22] = [
+    (Deed::Set(8), b"1234567\xc3\xa9", Some(Refusal::Place)),
+    (Deed::Set(0), b"12345678", Some(Refusal::Tall)),
+    (Deed::Set(7), b"1234567", None),
+    (Deed::Set(6), b"123\n\xc3\xa9", None),
+    (Deed::SetWide(0), b"12\xe4\xb8\xad3", None),
+    (Deed::SetWide(0), b"12\xe4\xb8\xad345", Some(Refusal::Tall)),
+    (Deed::Insert(0), b"\t", Some(Refusal::Text)),
+    (Deed::Insert(65535), b"ab", Some(Refusal::Text)),
+    (Deed::Insert(1), b"", Some(Refusal::Text)),
+    (Deed::Insert(4092), b"a", Some(Refusal::Long)),
+    (Deed::Insert(4091), b"a", Some(Refusal::Tall)),
+    (Deed::Insert(3), b"a", Some(Refusal::Tall)),
+    (Deed::Insert(2), b"a", None),
+    (Deed::Insert(0), b"a", None),
+    (Deed::Insert(2000), b"\xcc\x81", None),
+    (Deed::Message, b"678", Some(Refusal::Tall)),
+    (Deed::Message, b"\n", Some(Refusal::Tall)),
+    (Deed::Message, b"67", None),
+    (Deed::Message, b"", None),
+    (Deed::Line(2, 2), b"12345", None),
+    (Deed::Line(0, 2), b"12345678", Some(Refusal::Tall)),
+    (Deed::Line(3, 1), b"123", Some(Refusal::Tall)),
+];
+
+// A set and an insert are judged with the line that they make, a message with the line above it.
 #[test]
-fn hints(rt: HostRuntime) -> Result<(), Fail> {
-    let cases: [(&[u8], Option<Position>); 5] = [
-        (b"b", Some(place((4, 0)))),
-        (b"bc", Some(place((0, 1)))),
-        (b"bcdefg", Some(place((4, 1)))),
-        (b"bcdefgh", None),
-        (b"b\n\n", None),
-    ];
-    let line = judged(b"a", 2)??;
-    for (text, expected) in cases {
-        let mut hint = Note::new();
-        hint.set(text)?;
-        let layout = fit_hint::<Latin>(window()?, line, &mut hint);
-        assert_eq!(rt; layout.end(), expected.unwrap_or(place((3, 0))), "{text:?}");
-        assert_eq!(rt; layout.cursor(), place((3, 0)));
-        assert_eq!(rt; hint.get().is_some(), expected.is_some(), "{text:?}");
-        assert!(rt; hint.get().is_none_or(|left| left == text), "{text:?}");
+fn refusals(rt: HostRuntime) -> Result<(), Fail> {
+    for (deed, text, expected) in SHORT_TEXTS.iter() {
+        assert!(rt; answers(deed, text, *expected)?);
     }
-    let mut none = Note::new();
-    let layout = fit_hint::<Latin>(window()?, line, &mut none);
-    assert_eq!(rt; layout.end(), place((3, 0)));
-    assert!(rt; none.get().is_none());
+    let mut bad = LONG;
+    bad[4096] = 7;
+    let mut message = LONG;
+    message[1024] = 7;
+    let long_texts: [(Deed, &[u8], Option<Refusal>); 7] = [
+        (Deed::Set(9999), &bad, Some(Refusal::Text)),
+        (Deed::Set(9999), &LONG, Some(Refusal::Long)),
+        (Deed::Set(4097), &LONG[..4096], Some(Refusal::Place)),
+        (Deed::Set(4096), &LONG[..4096], Some(Refusal::Tall)),
+        (Deed::Message, &message, Some(Refusal::Text)),
+        (Deed::Message, &LONG[..1025], Some(Refusal::Long)),
+        (Deed::Message, &LONG[..1024], Some(Refusal::Tall)),
+    ];
+    for (deed, text, expected) in long_texts.iter() {
+        assert!(rt; answers(deed, text, *expected)?);
+    }
     Ok(())
 }
 
-// A judged line comes with its places and its layout: a full row counts as the next in the layout alone.
+// A line with its edit position at the end; where it ends, what is laid out, and where the prompt ends.
+const LINES: [(&[u8], (u16, u16), Laid); 2] = [
+    (b"a", (3, 0), ((3, 0), (3, 0), false)),
+    (b"123", (5, 0), ((0, 1), (0, 1), true)),
+];
+
+// Whether a judged line comes with its places and its layout.
+fn comes(text: &[u8], end: (u16, u16), expected: Laid) -> Result<bool, Fail> {
+    let line = judged(text, text.len(), 2)??;
+    let prompt = at(line.layout.prompt_size());
+    Ok(at(line.ends.end) == end && laid(line.layout) == expected && prompt == (2, 0))
+}
+
+// A hint behind the line `a`, or none; where the block ends if the hint is kept.
+const HINTS: [(Option<&[u8]>, Option<(u16, u16)>); 6] = [
+    (Some(b"b"), Some((4, 0))),
+    (Some(b"bc"), Some((0, 1))),
+    (Some(b"bcdefg"), Some((4, 1))),
+    (Some(b"bcdefgh"), None),
+    (Some(b"b\n\n"), None),
+    (None, None),
+];
+
+// Whether a hint is kept and ends the block where expected, or is dropped where nothing is expected.
+fn fits(text: Option<&[u8]>, expected: Option<(u16, u16)>) -> Result<bool, Fail> {
+    let line = judged(b"a", 1, 2)??;
+    let mut hint = Note::new();
+    if let Some(text) = text {
+        hint.set(text)?;
+    }
+    let layout = fit_hint::<Latin>(window()?, line, &mut hint);
+    let kept = if expected.is_some() { text } else { None };
+    let end = at(layout.end()) == expected.unwrap_or((3, 0));
+    Ok(end && at(layout.cursor()) == (3, 0) && hint.get() == kept)
+}
+
+// In a layout alone a full row counts as the next. A hint that the window holds stays, and the block ends behind it; one that it does
+// not hold is dropped.
 #[test]
-fn lines_alone(rt: HostRuntime) -> Result<(), Fail> {
-    let short = judged(b"a", 2)??;
-    assert_eq!(rt; short.ends.end, place((3, 0)));
-    assert_eq!(rt; short.layout.end(), place((3, 0)));
-    assert!(rt; !short.layout.full());
-    let full = judged(b"123", 2)??;
-    assert_eq!(rt; full.ends.end, place((5, 0)));
-    assert_eq!(rt; full.layout.end(), place((0, 1)));
-    assert_eq!(rt; full.layout.cursor(), place((0, 1)));
-    assert_eq!(rt; full.layout.prompt_size(), place((2, 0)));
-    assert!(rt; full.layout.full());
-    assert_eq!(rt; judged(b"123", 1)?.err(), Some(Refusal::Tall));
+fn lines_and_hints(rt: HostRuntime) -> Result<(), Fail> {
+    for (text, end, expected) in LINES {
+        assert!(rt; comes(text, end, expected)?);
+    }
+    for (text, expected) in HINTS {
+        assert!(rt; fits(text, expected)?);
+    }
     Ok(())
 }

@@ -15,7 +15,7 @@ pub(crate) fn place(at: (u16, u16)) -> Position {
 }
 
 // The column and the row of a place.
-fn at(place: Position) -> (u16, u16) {
+pub(crate) fn at(place: Position) -> (u16, u16) {
     (place.col, place.row)
 }
 
@@ -24,87 +24,101 @@ fn both(ends: LineEnds) -> ((u16, u16), (u16, u16)) {
     (at(ends.cursor), at(ends.end))
 }
 
-// A line, its position, and where the text up to the position and the whole end behind a prompt that ends at (2, row 0), in 5
-// columns; none for a position that is none. A full row does not count as the next here.
-type Measured = (&'static [u8], usize, Option<((u16, u16), (u16, u16))>);
-
-// By `oracle place 5 8 latin 2 0 TEXT` for both texts, but for the full rows, which it counts as (0, next row).
-const LINES: [Measured; 14] = [
-    (b"", 0, Some(((2, 0), (2, 0)))),
-    (b"ab", 1, Some(((3, 0), (4, 0)))),
-    (b"abc", 3, Some(((5, 0), (5, 0)))),
-    (b"abc", 2, Some(((4, 0), (5, 0)))),
-    (b"abcd", 0, Some(((2, 0), (1, 1)))),
-    (b"abcd", 3, Some(((5, 0), (1, 1)))),
-    (b"abc\nd", 3, Some(((5, 0), (1, 1)))),
-    (b"abc\nd", 4, Some(((0, 1), (1, 1)))),
-    (b"\n", 1, Some(((0, 1), (0, 1)))),
-    (b"e\xcc\x81f", 1, Some(((3, 0), (4, 0)))),
-    (b"e\xcc\x81f", 3, Some(((3, 0), (4, 0)))),
-    (b"ab\xe4\xb8\xad", 5, Some(((5, 0), (5, 0)))),
-    (b"ab", 3, None),
-    (b"\xc3\xa9", 1, None),
-];
-
-#[test]
-fn lines(rt: HostRuntime) {
-    for (line, pos, expected) in LINES {
-        let ends = measure_line::<Latin>(place((2, 0)), line, pos, 5);
-        assert_eq!(rt; ends.map(both), expected, "{line:?}");
-    }
-    // by `oracle place 5 8 eastern 2 0 TEXT`: a wide character does not stand across the row's end
-    let wide = measure_line::<Eastern>(place((2, 0)), b"ab\xe4\xb8\xad", 2, 5);
-    assert_eq!(rt; wide.map(both), Some(((4, 0), (2, 1))));
+// What is measured of a text in 5 columns: a line behind a prompt that ends at (2, row 0), with its edit position, also by the Eastern
+// table; the line `ad` with the text inserted at a position so many times; the text walked over from a place; the text walked over
+// so many times from (0, 0), by the Eastern table.
+enum Measure {
+    Line(usize),
+    LineWide(usize),
+    Insert(usize, u16),
+    Walk((u16, u16)),
+    WalkWide(u16),
 }
 
-// A character goes in at position 1 of `ad` so many times: what is measured is the line with it.
-#[test]
-fn inserts(rt: HostRuntime) {
-    for (text, count, expected) in INSERTS {
-        let ends = measure_insert::<Latin>(place((2, 0)), b"ad", 1, text, count, 5);
-        assert_eq!(rt; ends.map(both), Some(expected), "{text:?} {count}");
-    }
-    let past = measure_insert::<Latin>(place((2, 0)), b"ad", 3, b"b", 1, 5);
-    assert!(rt; past.is_none());
+// Where the edit position, or the beginning of a walk, and the end come to stand.
+fn measured(measure: &Measure, text: &[u8]) -> Option<LineEnds> {
+    let prompt = place((2, 0));
+    let (cursor, end) = match *measure {
+        Measure::Line(pos) => return measure_line::<Latin>(prompt, text, pos, 5),
+        Measure::LineWide(pos) => return measure_line::<Eastern>(prompt, text, pos, 5),
+        Measure::Insert(pos, count) => {
+            return measure_insert::<Latin>(prompt, b"ad", pos, text, count, 5);
+        }
+        Measure::Walk(from) => (place(from), walk_text::<Latin>(place(from), text, 5)?),
+        Measure::WalkWide(count) => {
+            let corner = place((0, 0));
+            (corner, walk_repeated::<Eastern>(corner, text, count, 5)?)
+        }
+    };
+    Some(LineEnds { cursor, end })
 }
 
-// By `oracle place 5 8 latin 2 0 TEXT` for the texts with the copies, full rows as above.
-const INSERTS: [(&[u8], u16, ((u16, u16), (u16, u16))); 6] = [
-    (b"b", 0, ((3, 0), (4, 0))),
-    (b"b", 1, ((4, 0), (5, 0))),
-    (b"b", 2, ((5, 0), (1, 1))),
-    (b"b", 7, ((5, 1), (1, 2))),
-    (b"\n", 3, ((0, 3), (1, 3))),
-    (b"\xcc\x81", 9, ((3, 0), (4, 0))),
-];
+// What is expected is none for a position that is none and for bad text. A full row does not count as the next here.
+type Measured = (Measure, &'static [u8], Option<((u16, u16), (u16, u16))>);
 
-// Texts walked over from a place, once and more often.
-#[test]
-fn walks(rt: HostRuntime) {
-    let corner = place((0, 0));
+// Lines and inserts by `oracle place 5 8 latin 2 0 TEXT` for the text up to the position and for the whole, or `eastern`, but for the
+// full rows, which it counts as (0, next row).
+const MEASURES: [Measured; 32] = [
+    (Measure::Line(0), b"", Some(((2, 0), (2, 0)))),
+    (Measure::Line(1), b"ab", Some(((3, 0), (4, 0)))),
+    (Measure::Line(3), b"abc", Some(((5, 0), (5, 0)))),
+    (Measure::Line(2), b"abc", Some(((4, 0), (5, 0)))),
+    (Measure::Line(0), b"abcd", Some(((2, 0), (1, 1)))),
+    (Measure::Line(3), b"abcd", Some(((5, 0), (1, 1)))),
+    (Measure::Line(3), b"abc\nd", Some(((5, 0), (1, 1)))),
+    (Measure::Line(4), b"abc\nd", Some(((0, 1), (1, 1)))),
+    (Measure::Line(1), b"\n", Some(((0, 1), (0, 1)))),
+    (Measure::Line(1), b"e\xcc\x81f", Some(((3, 0), (4, 0)))),
+    (Measure::Line(3), b"e\xcc\x81f", Some(((3, 0), (4, 0)))),
+    (Measure::Line(5), b"ab\xe4\xb8\xad", Some(((5, 0), (5, 0)))),
+    (Measure::Line(3), b"ab", None),
+    (Measure::Line(1), b"\xc3\xa9", None),
+    // a wide character does not stand across the row's end
+    (
+        Measure::LineWide(2),
+        b"ab\xe4\xb8\xad",
+        Some(((4, 0), (2, 1))),
+    ),
+    (Measure::Insert(1, 0), b"b", Some(((3, 0), (4, 0)))),
+    (Measure::Insert(1, 1), b"b", Some(((4, 0), (5, 0)))),
+    (Measure::Insert(1, 2), b"b", Some(((5, 0), (1, 1)))),
+    (Measure::Insert(1, 7), b"b", Some(((5, 1), (1, 2)))),
+    (Measure::Insert(1, 3), b"\n", Some(((0, 3), (1, 3)))),
+    (Measure::Insert(1, 9), b"\xcc\x81", Some(((3, 0), (4, 0)))),
+    (Measure::Insert(3, 1), b"b", None),
     // a full row waits for what comes: a character without a column stays on it, another begins the next row, an LF ends it
-    for (text, expected) in [
-        (b"".as_slice(), (5, 3)),
-        (b"\xcc\x81", (5, 3)),
-        (b"a", (1, 4)),
-        (b"\n", (0, 4)),
-    ] {
-        let end = walk_text::<Latin>(place((5, 3)), text, 5);
-        assert_eq!(rt; end.map(at), Some(expected), "{text:?}");
-    }
-    assert!(rt; walk_text::<Latin>(corner, b"\xff", 5).is_none());
+    (Measure::Walk((5, 3)), b"", Some(((5, 3), (5, 3)))),
+    (Measure::Walk((5, 3)), b"\xcc\x81", Some(((5, 3), (5, 3)))),
+    (Measure::Walk((5, 3)), b"a", Some(((5, 3), (1, 4)))),
+    (Measure::Walk((5, 3)), b"\n", Some(((5, 3), (0, 4)))),
+    (Measure::Walk((0, 0)), b"\xff", None),
     // two wide characters fill four of five columns, three take a row more
-    for (count, expected) in [
-        (0, (0, 0)),
-        (1, (2, 0)),
-        (2, (4, 0)),
-        (3, (2, 1)),
-        (5, (2, 2)),
-    ] {
-        let end = walk_repeated::<Eastern>(corner, b"\xe4\xb8\xad", count, 5);
-        assert_eq!(rt; end.map(at), Some(expected), "{count}");
-    }
-}
+    (
+        Measure::WalkWide(0),
+        b"\xe4\xb8\xad",
+        Some(((0, 0), (0, 0))),
+    ),
+    (
+        Measure::WalkWide(1),
+        b"\xe4\xb8\xad",
+        Some(((0, 0), (2, 0))),
+    ),
+    (
+        Measure::WalkWide(2),
+        b"\xe4\xb8\xad",
+        Some(((0, 0), (4, 0))),
+    ),
+    (
+        Measure::WalkWide(3),
+        b"\xe4\xb8\xad",
+        Some(((0, 0), (2, 1))),
+    ),
+    (
+        Measure::WalkWide(5),
+        b"\xe4\xb8\xad",
+        Some(((0, 0), (2, 2))),
+    ),
+];
 
 // A window of 5 columns and 2 rows, with the prompt's end at (2, row 0).
 pub(crate) fn window() -> Result<Window, Fail> {
@@ -115,19 +129,17 @@ pub(crate) fn window() -> Result<Window, Fail> {
 }
 
 // The edit position's place, the end, and whether the text ends on a full row.
-fn laid(layout: Layout) -> ((u16, u16), (u16, u16), bool) {
+pub(crate) type Laid = ((u16, u16), (u16, u16), bool);
+
+pub(crate) fn laid(layout: Layout) -> Laid {
     (at(layout.cursor()), at(layout.end()), layout.full())
 }
 
 // Where the line ends, the note behind it, and what is laid out, or none where that is higher than the window: a full row counts as
 // column 0 of the next, and a full last row is too high. By the rules (docs/PAGE.md, "Places and height").
-type Laid = (
-    (u16, u16),
-    Option<&'static [u8]>,
-    Option<((u16, u16), (u16, u16), bool)>,
-);
+type LaidOut = ((u16, u16), Option<&'static [u8]>, Option<Laid>);
 
-const LAYOUTS: [Laid; 9] = [
+const LAYOUTS: [LaidOut; 9] = [
     ((4, 0), None, Some(((3, 0), (4, 0), false))),
     ((5, 0), None, Some(((3, 0), (0, 1), true))),
     ((4, 1), None, Some(((3, 0), (4, 1), false))),
@@ -139,20 +151,24 @@ const LAYOUTS: [Laid; 9] = [
     ((0, 1), Some(b"\n"), None),
 ];
 
+// Whether a line and a note are laid out so, and so is the line alone where there is no note.
+fn lays(window: Window, end: (u16, u16), note: Option<&[u8]>, expected: Option<Laid>) -> bool {
+    let ends = LineEnds {
+        cursor: place((3, 0)),
+        end: place(end),
+    };
+    let alone = note.is_some() || window.line_layout::<Latin>(ends).map(laid) == expected;
+    alone && window.compute_layout::<Latin>(ends, note).map(laid) == expected
+}
+
 #[test]
-fn layouts(rt: HostRuntime) -> Result<(), Fail> {
+fn places(rt: HostRuntime) -> Result<(), Fail> {
+    for (measure, text, expected) in MEASURES.iter() {
+        assert!(rt; measured(measure, text).map(both) == *expected);
+    }
     let window = window()?;
     for (end, note, expected) in LAYOUTS {
-        let ends = LineEnds {
-            cursor: place((3, 0)),
-            end: place(end),
-        };
-        let layout = window.compute_layout::<Latin>(ends, note);
-        assert_eq!(rt; layout.map(laid), expected, "{end:?} {note:?}");
-        if note.is_none() {
-            let layout = window.line_layout::<Latin>(ends);
-            assert_eq!(rt; layout.map(laid), expected, "{end:?}");
-        }
+        assert!(rt; lays(window, end, note, expected));
     }
     Ok(())
 }

@@ -1,8 +1,7 @@
 // Blocks drawn.
-use crate::seeing::{layout, place, record};
+use crate::seeing::{are_parts, layout, place, record};
 use highlight::highlight::{CmdKind, Highlighter};
 use highlight::matching::MatchingBracketHighlighter;
-use highlight::plain::PlainHighlighter;
 use layout::block::Layout;
 use lines::line_buffer::LineBuffer;
 use lines::note::Note;
@@ -10,175 +9,137 @@ use lines::prompt::Prompt;
 use render::block::Block;
 use render::renderer::PosixRenderer;
 use std::test::Fail;
+use terminal::record::Record;
+use widths::tables::Latin;
 
-// A line and its edit position, a note or none, where prompt, line before the position and text end, and the block's last row and
-// the cursor's row before it; and the bytes. The prompt is `> `, in 5 columns.
+// The block that is drawn over: none, that of an empty text, or one with such a last row and such a row of the cursor.
+#[derive(Clone, Copy)]
+enum Old {
+    Nothing,
+    Origin,
+    Rows(u16, u16),
+}
+
+// The prompt's two forms, a line and its edit position, a note or none, whether its brackets are lit, where prompt, line before
+// the position and text end, the columns, and the old block; and the bytes.
 #[derive(Clone, Copy)]
 struct Case {
+    prompt: (&'static [u8], &'static [u8]),
     line: &'static [u8],
     pos: usize,
     note: Option<&'static [u8]>,
-    cursor: (u16, u16),
-    end: (u16, u16),
-    old: (u16, u16),
+    is_lit: bool,
+    ends: [(u16, u16); 3],
+    cols: u16,
+    old: Old,
     bytes: &'static [u8],
 }
 
+const PLAIN: (&[u8], &[u8]) = (b"> ", b"> ");
+
+const BOLD: (&[u8], &[u8]) = (b"> ", b"\x1b[1m>\x1b[0m ");
+
 // By the crate's own text, as a part of what `oracle acts --gate` writes for oracle/sample/worked.acts (the first three),
-// parts.acts, marks.acts; where the text ends with LF, by the rule that only a full row has a closing LF (docs/DIFFERENCES.md, L).
-const CASES: [Case; 6] = [
+// parts.acts, marks.acts, and brackets.acts and colours_off.acts (the last two); where the text ends with LF, by the rule that
+// only a full row has a closing LF (docs/DIFFERENCES.md, L).
+const CASES: [Case; 8] = [
     // the text ends on a full row
     Case {
+        prompt: PLAIN,
         line: b"abc",
         pos: 3,
         note: None,
-        cursor: (5, 0),
-        end: (5, 0),
-        old: (0, 0),
+        is_lit: false,
+        ends: [(2, 0), (5, 0), (5, 0)],
+        cols: 5,
+        old: Old::Rows(0, 0),
         bytes: b"\r\x1b[K> abc\n\r",
     },
     // another block in the place of one of two rows, with its cursor in the first; a redraw's move by one has its number
     Case {
+        prompt: PLAIN,
         line: b"abcd",
         pos: 0,
         note: None,
-        cursor: (2, 0),
-        end: (1, 1),
-        old: (1, 0),
+        is_lit: false,
+        ends: [(2, 0), (2, 0), (1, 1)],
+        cols: 5,
+        old: Old::Rows(1, 0),
         bytes: b"\x1b[1B\r\x1b[K\x1b[A\r\x1b[K> abcd\x1b[1A\r\x1b[2C",
     },
     // nothing to draw but the prompt
     Case {
+        prompt: PLAIN,
         line: b"",
         pos: 0,
         note: None,
-        cursor: (2, 0),
-        end: (2, 0),
-        old: (0, 0),
+        is_lit: false,
+        ends: [(2, 0), (2, 0), (2, 0)],
+        cols: 5,
+        old: Old::Rows(0, 0),
         bytes: b"\r\x1b[K> \r\x1b[2C",
     },
     // a note behind the line
     Case {
+        prompt: PLAIN,
         line: b"ab",
         pos: 1,
         note: Some(b"mn"),
-        cursor: (3, 0),
-        end: (1, 1),
-        old: (0, 0),
+        is_lit: false,
+        ends: [(2, 0), (3, 0), (1, 1)],
+        cols: 5,
+        old: Old::Rows(0, 0),
         bytes: b"\r\x1b[K> abmn\x1b[1A\r\x1b[3C",
     },
     // a zero-width character behind a full row
     Case {
+        prompt: PLAIN,
         line: b"abc\xcc\x81",
         pos: 5,
         note: None,
-        cursor: (5, 0),
-        end: (5, 0),
-        old: (1, 1),
+        is_lit: false,
+        ends: [(2, 0), (5, 0), (5, 0)],
+        cols: 5,
+        old: Old::Rows(1, 1),
         bytes: b"\r\x1b[K\x1b[A\r\x1b[K> abc\xcc\x81\n\r",
     },
     // an LF at the end, and an empty note
     Case {
+        prompt: PLAIN,
         line: b"a\n",
         pos: 2,
         note: Some(b""),
-        cursor: (0, 1),
-        end: (0, 1),
-        old: (0, 0),
+        is_lit: false,
+        ends: [(2, 0), (0, 1), (0, 1)],
+        cols: 5,
+        old: Old::Rows(0, 0),
         bytes: b"\r\x1b[K> a\n\r",
     },
+    // with colours the styled prompt and the highlighter's answers are drawn
+    Case {
+        prompt: BOLD,
+        line: b"(a)b",
+        pos: 3,
+        note: None,
+        is_lit: true,
+        ends: [(2, 0), (5, 0), (6, 0)],
+        cols: 20,
+        old: Old::Origin,
+        bytes: b"\r\x1b[K\x1b[1m>\x1b[0m \x1b[1;34m(\x1b[0ma)b\r\x1b[5C",
+    },
+    // without them the raw prompt and the plain texts
+    Case {
+        prompt: BOLD,
+        line: b"(a)b",
+        pos: 3,
+        note: None,
+        is_lit: false,
+        ends: [(2, 0), (5, 0), (6, 0)],
+        cols: 20,
+        old: Old::Origin,
+        bytes: b"\r\x1b[K> (a)b\r\x1b[5C",
+    },
 ];
-
-// The note of a text, or none.
-fn note_of(text: Option<&[u8]>) -> Result<Note, Fail> {
-    let mut note = Note::new();
-    if let Some(bytes) = text {
-        note.set(bytes)?;
-    }
-    Ok(note)
-}
-
-// The line with its edit position.
-fn line_of(text: &[u8], pos: usize) -> Result<LineBuffer, Fail> {
-    let mut line = LineBuffer::new();
-    line.update(text, pos)?;
-    Ok(line)
-}
-
-// Each case is drawn by one write; with a hold it stands between the hold and the release, and with no old block nothing is erased.
-#[test]
-fn draws(rt: HostRuntime) -> Result<(), Fail> {
-    let mut renderer = PosixRenderer::new();
-    let prompt = Prompt::plain(b"> ")?;
-    let lit: Option<&PlainHighlighter> = None;
-    for case in CASES {
-        let (last, row) = case.old;
-        let old = layout((2, 0), (2, row), (1, last), 5)?;
-        let new = layout((2, 0), case.cursor, case.end, 5)?;
-        let block = Block {
-            prompt: &prompt,
-            line: &line_of(case.line, case.pos)?,
-            note: &note_of(case.note)?,
-            layout: &new,
-        };
-        let mut log = record(rt.alloc())?;
-        let drawn = renderer.refresh_line(&mut log, &block, Some(&old), lit, false);
-        assert!(rt; drawn.is_ok());
-        assert_eq!(rt; log.bytes(), case.bytes);
-        let erased = renderer.compose_line(&block, Some(&old), lit);
-        let (_, drawing) = case
-            .bytes
-            .split_at_checked(erased)
-            .ok_or("more is erased than written")?;
-        let mut held = Vec::from_slice(rt.alloc(), b"\x1b[?2026h")?;
-        held.extend_from_slice(case.bytes)?;
-        held.extend_from_slice(b"\x1b[?2026l")?;
-        let mut log = record(rt.alloc())?;
-        let drawn = renderer.refresh_line(&mut log, &block, Some(&old), lit, true);
-        assert!(rt; drawn.is_ok());
-        assert_eq!(rt; log.bytes(), held.as_slice());
-        let mut log = record(rt.alloc())?;
-        let drawn = renderer.draw_line(&mut log, &block, None, lit);
-        assert!(rt; drawn.is_ok());
-        assert_eq!(rt; log.bytes(), drawing);
-    }
-    Ok(())
-}
-
-// With colours the styled prompt and the highlighter's answers are drawn, without them the raw prompt and the plain texts.
-// By the crate's own text: `oracle acts --gate` for oracle/sample/brackets.acts and colours_off.acts.
-#[test]
-fn colours(rt: HostRuntime) -> Result<(), Fail> {
-    let prompt = Prompt::new(b"> ", b"\x1b[1m>\x1b[0m ")?;
-    let line = line_of(b"(a)b", 3)?;
-    let mut brackets = MatchingBracketHighlighter::new();
-    let yes = brackets.highlight_char(line.line(), line.pos(), CmdKind::Other);
-    assert!(rt; yes);
-    let block = Block {
-        prompt: &prompt,
-        line: &line,
-        note: &Note::new(),
-        layout: &layout((2, 0), (5, 0), (6, 0), 20)?,
-    };
-    let mut renderer = PosixRenderer::new();
-    let mut log = record(rt.alloc())?;
-    let drawn = renderer.refresh_line(
-        &mut log,
-        &block,
-        Some(&Layout::origin()),
-        Some(&brackets),
-        false,
-    );
-    assert!(rt; drawn.is_ok());
-    let lit = b"\r\x1b[K\x1b[1m>\x1b[0m \x1b[1;34m(\x1b[0ma)b\r\x1b[5C";
-    assert_eq!(rt; log.bytes(), lit.as_slice());
-    let none: Option<&MatchingBracketHighlighter> = None;
-    let mut log = record(rt.alloc())?;
-    let drawn = renderer.refresh_line(&mut log, &block, Some(&Layout::origin()), none, false);
-    assert!(rt; drawn.is_ok());
-    assert_eq!(rt; log.bytes(), b"\r\x1b[K> (a)b\r\x1b[5C".as_slice());
-    Ok(())
-}
 
 // How many rows the cursor goes up, its column, and the bytes.
 type Climb = (u16, u16, &'static [u8]);
@@ -196,36 +157,96 @@ const CLIMBS: [Climb; 9] = [
     (109, 0, b"\x1b[109A\r"),
 ];
 
-#[test]
-fn climbs(rt: HostRuntime) -> Result<(), Fail> {
-    let mut renderer = PosixRenderer::new();
-    let prompt = Prompt::plain(b"")?;
-    let lit: Option<&PlainHighlighter> = None;
-    for (up, col, bytes) in CLIMBS {
-        let block = Block {
-            prompt: &prompt,
-            line: &LineBuffer::new(),
-            note: &Note::new(),
-            layout: &layout((0, 0), (col, 0), (3, up), 500)?,
-        };
-        let mut log = record(rt.alloc())?;
-        let drawn = renderer.draw_line(&mut log, &block, None, lit);
-        assert!(rt; drawn.is_ok());
-        assert_eq!(rt; log.bytes(), bytes);
+// The case of a climb: nothing is drawn, with no old block.
+fn climb((up, col, bytes): Climb) -> Case {
+    Case {
+        prompt: (b"", b""),
+        line: b"",
+        pos: 0,
+        note: None,
+        is_lit: false,
+        ends: [(0, 0), (col, 0), (3, up)],
+        cols: 500,
+        old: Old::Nothing,
+        bytes,
     }
+}
+
+#[test]
+fn draws(rt: HostRuntime) -> Result<(), Fail> {
+    for case in CASES {
+        assert!(rt; is_drawn(&case, record(rt.alloc())?)?);
+    }
+    for case in CLIMBS {
+        assert!(rt; is_drawn(&climb(case), record(rt.alloc())?)?);
+    }
+    assert!(rt; layouts()?);
     Ok(())
 }
 
+// Makes the case's block, and tells whether it is drawn so.
+fn is_drawn(case: &Case, log: Record<Latin>) -> Result<bool, Fail> {
+    let (raw, styled) = case.prompt;
+    let mut line = LineBuffer::new();
+    line.update(case.line, case.pos)?;
+    let mut note = Note::new();
+    if let Some(bytes) = case.note {
+        note.set(bytes)?;
+    }
+    let [prompt, cursor, end] = case.ends;
+    let block = Block {
+        prompt: &Prompt::new(raw, styled)?,
+        line: &line,
+        note: &note,
+        layout: &layout(prompt, cursor, end, case.cols)?,
+    };
+    let old = match case.old {
+        Old::Nothing => None,
+        Old::Origin => Some(Layout::origin()),
+        Old::Rows(last, row) => Some(layout((2, 0), (2, row), (1, last), case.cols)?),
+    };
+    let mut brackets = MatchingBracketHighlighter::new();
+    let is_lit = case.is_lit && brackets.highlight_char(line.line(), line.pos(), CmdKind::Other);
+    let lit = if is_lit { Some(&brackets) } else { None };
+    Ok(is_written(log, &block, old.as_ref(), lit, case.bytes))
+}
+
+// Each block is drawn by one write; with a hold it stands between the hold and the release, and with no old block nothing is erased.
+fn is_written(
+    mut log: Record<Latin>,
+    block: &Block,
+    old: Option<&Layout>,
+    lit: Option<&MatchingBracketHighlighter>,
+    bytes: &[u8],
+) -> bool {
+    let mut renderer = PosixRenderer::new();
+    let erased = renderer.compose_line(block, old, lit);
+    let Some((_, drawing)) = bytes.split_at_checked(erased) else {
+        return false;
+    };
+    renderer
+        .refresh_line(&mut log, block, old, lit, false)
+        .is_ok()
+        && renderer
+            .refresh_line(&mut log, block, old, lit, true)
+            .is_ok()
+        && renderer.draw_line(&mut log, block, None, lit).is_ok()
+        && are_parts(
+            log.bytes(),
+            &[bytes, b"\x1b[?2026h", bytes, b"\x1b[?2026l", drawing],
+        )
+}
+
 // A layout counts a full row as column 0 of the next, and one that no window holds is none.
-#[test]
-fn layouts(rt: HostRuntime) -> Result<(), Fail> {
+fn layouts() -> Result<bool, Fail> {
     let full = layout((2, 0), (5, 0), (5, 198), 5)?;
-    assert_eq!(rt; full.cursor(), place((0, 1)));
-    assert_eq!(rt; full.end(), place((0, 199)));
-    assert!(rt; full.full());
     let too_low = Layout::new(place((2, 0)), place((5, 0)), place((5, 199)), 5, 200);
-    assert!(rt; too_low.is_none());
     let upwards = Layout::new(place((2, 0)), place((2, 1)), place((2, 0)), 5, 200);
-    assert!(rt; upwards.is_none());
-    Ok(())
+    Ok(
+        full.cursor() == place((0, 1))
+            && full.end() == place((0, 199))
+            && full.full()
+            && too_low.is_none()
+            && upwards.is_none(),
+    )
 }

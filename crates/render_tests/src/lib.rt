@@ -4,8 +4,6 @@
 #[cfg(test)]
 mod drawing;
 #[cfg(test)]
-mod erasing;
-#[cfg(test)]
 mod moving;
 #[cfg(test)]
 mod notices;

@@ -1,4 +1,4 @@
-// Places, layouts and records for the tests.
+// Places, layouts and records for the tests, and what a record took.
 use layout::block::Layout;
 use layout::layout::Position;
 use std::alloc::Global;
@@ -28,4 +28,16 @@ pub(crate) fn layout(
 ) -> Result<Layout, Fail> {
     let made = Layout::new(place(prompt), place(cursor), place(end), cols, 200);
     Ok(made.ok_or("no window holds the places")?)
+}
+
+// Whether bytes are these parts, one behind the other, and nothing else.
+pub(crate) fn are_parts(bytes: &[u8], parts: &[&[u8]]) -> bool {
+    let mut rest = bytes;
+    for part in parts {
+        let Some(behind) = rest.strip_prefix(*part) else {
+            return false;
+        };
+        rest = behind;
+    }
+    rest.is_empty()
 }

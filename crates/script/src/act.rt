@@ -1,4 +1,9 @@
 // The acts of a script.
+ghost use Rattle.std.specs.Prelude.{◌≡◌, Some, None, MatchResult, ◌⊎◌};
+ghost use Rattle.script.specs.Acts.{act_of, deed_of};
+ghost use Rattle.script.specs.Scripts.{verb_of};
+ghost use Rattle.script.specs.declared.error.Wrong.TheVariants.{Memory};
+
 use crate::error::Wrong;
 use crate::fields::Fields;
 
@@ -24,22 +29,75 @@ pub struct ScriptLine {
     pub act: ScriptAct,
 }
 
+// The words that say an act.
+#[derive(Clone, Copy)]
+pub(crate) enum Verb {
+    Create,
+    Insert,
+    Set,
+    Go,
+    Refresh,
+    Message,
+    Notice,
+    Clear,
+    Finish,
+}
+
+impl Verb {
+    // The verb that a word is. No `FromStr`: an error would say no more than `None`.
+    pub(crate) fn named(name: &str) -> Option<Verb>
+        ensures { result ≡ verb_of name.now }
+    {
+        Some(match name {
+            "create" => Verb::Create,
+            "insert" => Verb::Insert,
+            "set" => Verb::Set,
+            "go" => Verb::Go,
+            "refresh" => Verb::Refresh,
+            "message" => Verb::Message,
+            "notice" => Verb::Notice,
+            "clear" => Verb::Clear,
+            "finish" => Verb::Finish,
+            _ => return None,
+        })
+    }
+}
+
 impl ScriptAct {
-    // The act that a word and the fields behind it say; none where the word is that of no act.
-    pub(crate) fn read(name: &str, fields: &mut Fields<'_>) -> Result<Option<ScriptAct>, Wrong> {
-        let act = match name {
-            "create" => ScriptAct::Create,
-            "insert" => ScriptAct::Insert(fields.string()?, fields.small()?),
-            "set" => ScriptAct::Set(fields.string()?, fields.number()?),
-            "go" => ScriptAct::Go(fields.number()?),
-            "refresh" => ScriptAct::Refresh,
-            "message" => ScriptAct::Message(fields.string()?),
-            "notice" => ScriptAct::Notice(fields.string()?),
-            "clear" => ScriptAct::Clear,
-            "finish" => ScriptAct::Finish,
-            _ => return Ok(None),
-        };
-        fields.end()?;
-        Ok(Some(act))
+    // The act that a verb and the fields behind it say.
+    pub(crate) fn read(verb: Verb, fields: &mut Fields<'_>) -> Result<ScriptAct, Wrong>
+        ensures { MatchResult result (λ act. act_of verb fields.old.rest.now ≡ Some (deed_of act)) (λ wrong. (wrong ≡ Memory) ⊎ (act_of verb fields.old.rest.now ≡ None)) }
+    {
+        match verb {
+            Verb::Create => {
+                fields.end()?;
+                Ok(ScriptAct::Create)
+            }
+            Verb::Insert => {
+                let text = fields.string()?;
+                let times = fields.last_small()?;
+                Ok(ScriptAct::Insert(text, times))
+            }
+            Verb::Set => {
+                let line = fields.string()?;
+                let pos = fields.last_number()?;
+                Ok(ScriptAct::Set(line, pos))
+            }
+            Verb::Go => Ok(ScriptAct::Go(fields.last_number()?)),
+            Verb::Refresh => {
+                fields.end()?;
+                Ok(ScriptAct::Refresh)
+            }
+            Verb::Message => Ok(ScriptAct::Message(fields.last_string()?)),
+            Verb::Notice => Ok(ScriptAct::Notice(fields.last_string()?)),
+            Verb::Clear => {
+                fields.end()?;
+                Ok(ScriptAct::Clear)
+            }
+            Verb::Finish => {
+                fields.end()?;
+                Ok(ScriptAct::Finish)
+            }
+        }
     }
 }

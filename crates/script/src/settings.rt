@@ -1,5 +1,9 @@
 // The settings of a script.
-ghost use Rattle.std.specs.Prelude.{IfOk, IsOkUnless};
+ghost use Rattle.std.specs.Prelude.{◌≡◌, IfOk, IsOkUnless};
+ghost use Rattle.std.specs.Result.{result_ok};
+ghost use Rattle.script.specs.declared.settings.Setting.TheVariants as words;
+ghost use Rattle.script.specs.Settings.{answer_of, change_of, setup_of, Changes};
+ghost use Rattle.script.specs.Scripts.{setting_of};
 
 use crate::error::Wrong;
 use crate::fields::Fields;
@@ -55,7 +59,9 @@ pub(crate) enum Setting {
 
 impl Setting {
     // The setting of that name. No `FromStr`: an error would say no more than `None`.
-    pub(crate) fn named(name: &str) -> Option<Setting> {
+    pub(crate) fn named(name: &str) -> Option<Setting>
+        ensures { result ≡ setting_of name.now }
+    {
         Some(match name {
             "size" => Setting::Size,
             "table" => Setting::Table,
@@ -73,12 +79,17 @@ impl Setting {
 }
 
 // How a call goes wrong: `down`, `interrupted`, or how many bytes it takes.
-fn read_answer(word: &str) -> Result<WriteAnswer, Wrong> {
-    Ok(match word {
-        "down" => Err(WriteError::Down),
-        "interrupted" => Err(WriteError::Interrupted),
-        _ => Ok(read_number(word.as_bytes())?),
-    })
+fn read_answer(word: &str) -> Result<WriteAnswer, Wrong>
+    ensures { result_ok result ≡ answer_of word.now }
+{
+    match word {
+        "down" => Ok(Err(WriteError::Down)),
+        "interrupted" => Ok(Err(WriteError::Interrupted)),
+        _ => {
+            let taken = read_number(word.as_bytes())?;
+            Ok(Ok(taken))
+        }
+    }
 }
 
 impl Settings {
@@ -105,16 +116,19 @@ impl Settings {
         })
     }
 
-    fn set_size(&mut self, fields: &mut Fields<'_>) -> Result<(), Wrong> {
+    fn set_size(&mut self, fields: &mut Fields<'_>) -> Result<(), Wrong>
+        ensures { Changes (change_of words.Size fields.old.rest.now (setup_of self.old)) self.old self.new result }
+    {
         let cols = fields.small()?;
-        let rows = fields.small()?;
-        fields.end()?;
+        let rows = fields.last_small()?;
         self.cols = cols;
         self.rows = rows;
         Ok(())
     }
 
-    fn set_prompt(&mut self, fields: &mut Fields<'_>) -> Result<(), Wrong> {
+    fn set_prompt(&mut self, fields: &mut Fields<'_>) -> Result<(), Wrong>
+        ensures { Changes (change_of words.Prompt fields.old.rest.now (setup_of self.old)) self.old self.new result }
+    {
         let raw = fields.string()?;
         let styled = if fields.is_empty() {
             raw.clone()?
@@ -126,40 +140,59 @@ impl Settings {
         Ok(())
     }
 
-    fn add_caption(&mut self, fields: &mut Fields<'_>) -> Result<(), Wrong> {
+    fn add_caption(&mut self, fields: &mut Fields<'_>) -> Result<(), Wrong>
+        ensures { Changes (change_of words.Caption fields.old.rest.now (setup_of self.old)) self.old self.new result }
+    {
         let mut caption = fields.last_string()?;
         caption.push(b'\n')?;
         self.captions.extend_from_slice(caption.as_slice())?;
         Ok(())
     }
 
-    fn add_fault(&mut self, fields: &mut Fields<'_>) -> Result<(), Wrong> {
+    fn add_fault(&mut self, fields: &mut Fields<'_>) -> Result<(), Wrong>
+        ensures { Changes (change_of words.Fault fields.old.rest.now (setup_of self.old)) self.old self.new result }
+    {
         let call = fields.number()?;
-        let answer = read_answer(fields.name()?)?;
+        let word = fields.name()?;
+        let answer = read_answer(word)?;
         fields.end()?;
         self.faults.push(Fault { call, answer })?;
         Ok(())
     }
 
     // Takes a setting; where it cannot be read, nothing has changed.
-    pub(crate) fn set(&mut self, setting: Setting, fields: &mut Fields<'_>) -> Result<(), Wrong> {
+    pub(crate) fn set(&mut self, setting: Setting, fields: &mut Fields<'_>) -> Result<(), Wrong>
+        ensures { Changes (change_of setting fields.old.rest.now (setup_of self.old)) self.old self.new result }
+    {
         match setting {
-            Setting::Size => self.set_size(fields)?,
-            Setting::Table => self.table = fields.last_table()?,
-            Setting::Prompt => self.set_prompt(fields)?,
-            Setting::Colours => self.colours = fields.last_switch()?,
-            Setting::Holds => self.holds = fields.last_switch()?,
-            Setting::Highlighter => {
-                self.highlighting = fields.last_choice(
-                    ("plain", Highlighting::Plain),
-                    ("brackets", Highlighting::Brackets),
-                )?;
+            Setting::Size => self.set_size(fields),
+            Setting::Table => {
+                self.table = fields.last_table()?;
+                Ok(())
             }
-            Setting::Caption => self.add_caption(fields)?,
-            Setting::Pace => self.pace = fields.last_number()?,
-            Setting::Paper => self.paper = fields.last_number()?,
-            Setting::Fault => self.add_fault(fields)?,
+            Setting::Prompt => self.set_prompt(fields),
+            Setting::Colours => {
+                self.colours = fields.last_switch()?;
+                Ok(())
+            }
+            Setting::Holds => {
+                self.holds = fields.last_switch()?;
+                Ok(())
+            }
+            Setting::Highlighter => {
+                self.highlighting = fields.last_highlighting()?;
+                Ok(())
+            }
+            Setting::Caption => self.add_caption(fields),
+            Setting::Pace => {
+                self.pace = fields.last_number()?;
+                Ok(())
+            }
+            Setting::Paper => {
+                self.paper = fields.last_number()?;
+                Ok(())
+            }
+            Setting::Fault => self.add_fault(fields),
         }
-        Ok(())
     }
 }

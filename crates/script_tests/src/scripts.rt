@@ -1,36 +1,59 @@
 // Scripts that can be read.
 use script::act::ScriptAct;
 use script::reading::{Script, read_script};
-use script::settings::Highlighting;
+use script::settings::{Highlighting, Settings};
 use std::alloc::Global;
-use std::test::Fail;
-use terminal::terminal::WriteError;
+use terminal::terminal::{WriteAnswer, WriteError};
 use widths::tables::Table;
 
-// The script that some bytes spell, with what is wrong in it.
-fn script(heap: Global, bytes: &[u8]) -> Result<Script, Fail> {
-    read_script(heap, bytes).map_err(|_| Fail::new("no memory"))
+// What the settings should be.
+struct Set {
+    cols: u16,
+    rows: u16,
+    table: Table,
+    // the prompt, plain and styled
+    prompt: &'static [u8],
+    // colours, holds, brackets
+    switches: (bool, bool, bool),
+    captions: &'static [u8],
+    // pace and paper
+    pace: (usize, usize),
+    faults: &'static [(usize, WriteAnswer)],
 }
 
-// A script that says no settings has the default ones.
-#[test]
-fn defaults(rt: HostRuntime) -> Result<(), Fail> {
-    let script = script(rt.alloc(), b"")?;
-    let settings = &script.settings;
-    assert!(rt; script.error.is_none() && script.acts.is_empty());
-    assert_eq!(rt; (settings.cols, settings.rows), (80, 24));
-    assert!(rt; matches!(settings.table, Table::Latin));
-    assert_eq!(rt; settings.raw.as_slice(), b"> ".as_slice());
-    assert_eq!(rt; settings.styled.as_slice(), b"> ".as_slice());
-    assert!(rt; !settings.colours && !settings.holds);
-    assert!(rt; matches!(settings.highlighting, Highlighting::Plain));
-    assert!(rt; settings.captions.is_empty() && settings.faults.is_empty());
-    assert_eq!(rt; (settings.pace, settings.paper), (0, 10_000));
-    Ok(())
+// An act: its line, its word, its string and its number.
+type Told = (usize, &'static str, &'static [u8], usize);
+
+// A script, and what it should be read as; the line in which something is wrong, or 0.
+struct Case {
+    bytes: &'static [u8],
+    set: Set,
+    acts: &'static [Told],
+    wrong: usize,
 }
 
-// Of a setting given twice the last counts, captions and faults add up; CR, tabs and spaces are blanks.
-const SETTINGS: &[u8] = b"size 9 9\n\
+const DEFAULTS: Set = Set {
+    cols: 80,
+    rows: 24,
+    table: Table::Latin,
+    prompt: b"> ",
+    switches: (false, false, false),
+    captions: b"",
+    pace: (0, 10_000),
+    faults: &[],
+};
+
+const CASES: [Case; 3] = [
+    // A script that says no settings has the default ones.
+    Case {
+        bytes: b"",
+        set: DEFAULTS,
+        acts: &[],
+        wrong: 0,
+    },
+    // Of a setting given twice the last counts, captions and faults add up; CR, tabs and spaces are blanks.
+    Case {
+        bytes: b"size 9 9\n\
 size\t5 2\r\n\
 table latin\ntable eastern\n\
 prompt \"a\" \"b\"\n  prompt \"\\e[1m>\\e[0m \"\n\
@@ -38,70 +61,104 @@ colours off\ncolours on\nholds on\n\
 highlighter brackets\n\
 caption \"one\\ntwo\"\ncaption \"\"\ncaption \"three\"\n\
 pace 3\npaper 7\npaper 0\n\
-fault 4 down\nfault 2 interrupted\nfault 4 12\n";
+fault 4 down\nfault 2 interrupted\nfault 4 12\n",
+        set: Set {
+            cols: 5,
+            rows: 2,
+            table: Table::Eastern,
+            prompt: b"\x1b[1m>\x1b[0m ",
+            switches: (true, true, true),
+            captions: b"one\ntwo\n\nthree\n",
+            pace: (3, 0),
+            faults: &[
+                (4, Err(WriteError::Down)),
+                (2, Err(WriteError::Interrupted)),
+                (4, Ok(12)),
+            ],
+        },
+        acts: &[],
+        wrong: 0,
+    },
+    // Each act with its line and its fields; what is read stays where a later line is wrong.
+    Case {
+        bytes: b"# acts\ncreate\ninsert \"\\xC3\\xA9\" 2\nset \"a b\" 3\ngo 0\n\nrefresh\nmessage \"\"\nnotice \"n\\n\"\nclear\nfinish\ncreate\nwhat\nclear\n",
+        set: DEFAULTS,
+        acts: &[
+            (2, "create", b"", 0),
+            (3, "insert", b"\xc3\xa9", 2),
+            (4, "set", b"a b", 3),
+            (5, "go", b"", 0),
+            (7, "refresh", b"", 0),
+            (8, "message", b"", 0),
+            (9, "notice", b"n\n", 0),
+            (10, "clear", b"", 0),
+            (11, "finish", b"", 0),
+            (12, "create", b"", 0),
+        ],
+        wrong: 13,
+    },
+];
 
-#[test]
-fn settings(rt: HostRuntime) -> Result<(), Fail> {
-    let script = script(rt.alloc(), SETTINGS)?;
-    let settings = &script.settings;
-    assert!(rt; script.error.is_none());
-    assert_eq!(rt; (settings.cols, settings.rows), (5, 2));
-    assert!(rt; matches!(settings.table, Table::Eastern));
-    assert_eq!(rt; settings.raw.as_slice(), b"\x1b[1m>\x1b[0m ".as_slice());
-    assert_eq!(rt; settings.styled.as_slice(), b"\x1b[1m>\x1b[0m ".as_slice());
-    assert!(rt; settings.colours && settings.holds);
-    assert!(rt; matches!(settings.highlighting, Highlighting::Brackets));
-    assert_eq!(rt;
-        settings.captions.as_slice(),
-        b"one\ntwo\n\nthree\n".as_slice()
-    );
-    assert_eq!(rt; (settings.pace, settings.paper), (3, 0));
-    let faults = [
-        (4, Err(WriteError::Down)),
-        (2, Err(WriteError::Interrupted)),
-        (4, Ok(12)),
-    ];
-    assert_eq!(rt; settings.faults.len(), faults.len());
+// The word, the string and the number of an act.
+fn told(act: &ScriptAct) -> (&str, &[u8], usize) {
+    match act {
+        ScriptAct::Create => ("create", b"", 0),
+        ScriptAct::Insert(bytes, count) => ("insert", bytes.as_slice(), usize::from(*count)),
+        ScriptAct::Set(bytes, pos) => ("set", bytes.as_slice(), *pos),
+        ScriptAct::Go(pos) => ("go", b"", *pos),
+        ScriptAct::Refresh => ("refresh", b"", 0),
+        ScriptAct::Message(bytes) => ("message", bytes.as_slice(), 0),
+        ScriptAct::Notice(bytes) => ("notice", bytes.as_slice(), 0),
+        ScriptAct::Clear => ("clear", b"", 0),
+        ScriptAct::Finish => ("finish", b"", 0),
+    }
+}
+
+fn acts_are(script: &Script, acts: &[Told]) -> bool {
+    for (line, expected) in script.acts.iter().zip(acts) {
+        let (word, bytes, number) = told(&line.act);
+        if (line.line, word, bytes, number) != *expected {
+            return false;
+        }
+    }
+    script.acts.len() == acts.len()
+}
+
+fn faults_are(settings: &Settings, faults: &[(usize, WriteAnswer)]) -> bool {
     for (fault, expected) in settings.faults.iter().zip(faults) {
-        assert_eq!(rt; (fault.call, fault.answer), expected);
+        if (fault.call, fault.answer) != *expected {
+            return false;
+        }
     }
-    Ok(())
+    settings.faults.len() == faults.len()
 }
 
-// Each act with its line and its fields; what is read stays where a later line is wrong.
-const ACTS: &[u8] =
-    b"# acts\ncreate\ninsert \"\\xC3\\xA9\" 2\nset \"a b\" 3\ngo 0\n\nrefresh\nmessage \"\"\nnotice \"n\\n\"\nclear\nfinish\ncreate\nwhat\nclear\n";
+fn settings_are(settings: &Settings, set: &Set) -> bool {
+    let brackets = matches!(settings.highlighting, Highlighting::Brackets);
+    (settings.cols, settings.rows) == (set.cols, set.rows)
+        && settings.table == set.table
+        && settings.raw.as_slice() == set.prompt
+        && settings.styled.as_slice() == set.prompt
+        && (settings.colours, settings.holds, brackets) == set.switches
+        && settings.captions.as_slice() == set.captions
+        && (settings.pace, settings.paper) == set.pace
+        && faults_are(settings, set.faults)
+}
 
-// The line of an act, and the act as it would be written.
-fn spelled(heap: Global, script: &Script) -> Result<String, Fail> {
-    let mut text = String::new(heap);
-    for line in &script.acts {
-        let number = line.line;
-        let told = match &line.act {
-            ScriptAct::Create => format!(in heap; "{number} create; ")?,
-            ScriptAct::Insert(bytes, count) => format!(in heap;
-                "{number} insert {bytes:?} {count}; "
-            )?,
-            ScriptAct::Set(bytes, pos) => format!(in heap; "{number} set {bytes:?} {pos}; ")?,
-            ScriptAct::Go(pos) => format!(in heap; "{number} go {pos}; ")?,
-            ScriptAct::Refresh => format!(in heap; "{number} refresh; ")?,
-            ScriptAct::Message(bytes) => format!(in heap; "{number} message {bytes:?}; ")?,
-            ScriptAct::Notice(bytes) => format!(in heap; "{number} notice {bytes:?}; ")?,
-            ScriptAct::Clear => format!(in heap; "{number} clear; ")?,
-            ScriptAct::Finish => format!(in heap; "{number} finish; ")?,
-        };
-        text.push_str(told.as_str())?;
-    }
-    Ok(text)
+fn holds(heap: Global, case: &Case) -> bool {
+    let Ok(script) = read_script(heap, case.bytes) else {
+        return false;
+    };
+    let wrong = match &script.error {
+        Some(error) => error.line,
+        None => 0,
+    };
+    wrong == case.wrong && settings_are(&script.settings, &case.set) && acts_are(&script, case.acts)
 }
 
 #[test]
-fn acts(rt: HostRuntime) -> Result<(), Fail> {
-    let script = script(rt.alloc(), ACTS)?;
-    let expected =
-        "2 create; 3 insert [195, 169] 2; 4 set [97, 32, 98] 3; 5 go 0; 7 refresh; 8 message []; 9 notice [110, 10]; 10 clear; 11 finish; 12 create; ";
-    assert_eq!(rt; spelled(rt.alloc(), &script)?.as_str(), expected);
-    let line = script.error.as_ref().map(|error| error.line);
-    assert_eq!(rt; line, Some(13));
-    Ok(())
+fn scripts(rt: HostRuntime) {
+    for (number, case) in CASES.iter().enumerate() {
+        assert!(rt; holds(rt.alloc(), case), "case {number}");
+    }
 }

@@ -1,71 +1,82 @@
 // Strings and numbers.
 use script::escape::{StringFault, read_quoted};
 use script::number::{NumberFault, read_number};
+use std::alloc::Global;
 
-// What stands behind a string's opening mark, the bytes that it means, and how long its spelling is with the closing mark.
-const STRINGS: [(&[u8], &[u8], usize); 10] = [
-    (b"\"", b"", 1),
-    (b"a b\" 3", b"a b", 4),
-    (b"a\\\"b\"", b"a\"b", 5),
-    (b"\\\\\"", b"\\", 3),
-    (b"\\n\\t\\r\\e\"", b"\n\t\r\x1b", 9),
-    (b"\\x00\\xfF\\xAb\"", b"\x00\xff\xab", 13),
-    (b"\\x4a5\"", b"J5", 6),
+// What is read, and what it should come to.
+enum Case {
+    // what stands behind a string's opening mark, the bytes that it means, and how long its spelling is with the closing mark
+    Means(&'static [u8], &'static [u8], usize),
+    // a string that is not closed
+    Open(&'static [u8]),
+    // a string with something unknown behind a backslash, which comes first
+    Unknown(&'static [u8]),
+    // a number: decimal digits and nothing else, below 2^64
+    Number(&'static [u8], usize),
+    NoDigits(&'static [u8]),
+    TooLarge(&'static [u8]),
+}
+
+const CASES: [Case; 39] = [
+    Case::Means(b"\"", b"", 1),
+    Case::Means(b"a b\" 3", b"a b", 4),
+    Case::Means(b"a\\\"b\"", b"a\"b", 5),
+    Case::Means(b"\\\\\"", b"\\", 3),
+    Case::Means(b"\\n\\t\\r\\e\"", b"\n\t\r\x1b", 9),
+    Case::Means(b"\\x00\\xfF\\xAb\"", b"\x00\xff\xab", 13),
+    Case::Means(b"\\x4a5\"", b"J5", 6),
     // any other byte stands for itself, an LF or one that is no UTF-8 too
-    (b"\xc3\n\t\"x", b"\xc3\n\t", 4),
-    (b"#'\"", b"#'", 3),
-    (b"\\x22\"", b"\"", 5),
+    Case::Means(b"\xc3\n\t\"x", b"\xc3\n\t", 4),
+    Case::Means(b"#'\"", b"#'", 3),
+    Case::Means(b"\\x22\"", b"\"", 5),
+    Case::Open(b""),
+    Case::Open(b"abc"),
+    Case::Open(b"a\\\""),
+    Case::Open(b"\\"),
+    Case::Open(b"\\x"),
+    Case::Open(b"\\x4"),
+    Case::Unknown(b"\\q\""),
+    Case::Unknown(b"\\N\""),
+    Case::Unknown(b"\\ \""),
+    Case::Unknown(b"\\x\""),
+    Case::Unknown(b"\\x4\""),
+    Case::Unknown(b"\\xG0\""),
+    Case::Unknown(b"\\q"),
+    Case::Number(b"0", 0),
+    Case::Number(b"7", 7),
+    Case::Number(b"007", 7),
+    Case::Number(b"65536", 65_536),
+    Case::Number(b"18446744073709551615", 18_446_744_073_709_551_615),
+    Case::Number(b"0000000000000000000000012", 12),
+    Case::NoDigits(b""),
+    Case::NoDigits(b"+1"),
+    Case::NoDigits(b"-1"),
+    Case::NoDigits(b"1a"),
+    Case::NoDigits(b"a"),
+    Case::NoDigits(b" 1"),
+    Case::NoDigits(b"1.0"),
+    Case::NoDigits(b"\xd9\xa1"),
+    Case::TooLarge(b"18446744073709551616"),
+    Case::TooLarge(b"99999999999999999999999"),
 ];
 
-#[test]
-fn strings(rt: HostRuntime) {
-    for (text, bytes, len) in STRINGS {
-        let read = read_quoted(rt.alloc(), text);
-        let same = read.is_ok_and(|quoted| quoted.bytes.as_slice() == bytes && quoted.len == len);
-        assert!(rt; same, "{text:?}");
+fn holds(heap: Global, case: &Case) -> bool {
+    match *case {
+        Case::Means(text, bytes, len) => match read_quoted(heap, text) {
+            Ok(quoted) => quoted.bytes.as_slice() == bytes && quoted.len == len,
+            Err(_) => false,
+        },
+        Case::Open(text) => matches!(read_quoted(heap, text), Err(StringFault::Unclosed)),
+        Case::Unknown(text) => matches!(read_quoted(heap, text), Err(StringFault::Escape)),
+        Case::Number(word, value) => matches!(read_number(word), Ok(number) if number == value),
+        Case::NoDigits(word) => matches!(read_number(word), Err(NumberFault::Digits)),
+        Case::TooLarge(word) => matches!(read_number(word), Err(NumberFault::Large)),
     }
 }
 
-// Strings that are not closed, and strings with something unknown behind a backslash, which comes first.
 #[test]
-fn bad_strings(rt: HostRuntime) {
-    let open: [&[u8]; 6] = [b"", b"abc", b"a\\\"", b"\\", b"\\x", b"\\x4"];
-    for text in open {
-        let read = read_quoted(rt.alloc(), text);
-        assert!(rt; matches!(read, Err(StringFault::Unclosed)), "{text:?}");
-    }
-    let unknown: [&[u8]; 7] = [
-        b"\\q\"", b"\\N\"", b"\\ \"", b"\\x\"", b"\\x4\"", b"\\xG0\"", b"\\q",
-    ];
-    for text in unknown {
-        let read = read_quoted(rt.alloc(), text);
-        assert!(rt; matches!(read, Err(StringFault::Escape)), "{text:?}");
-    }
-}
-
-// A number is decimal digits and nothing else, below 2^64.
-#[test]
-fn numbers(rt: HostRuntime) {
-    let good: [(&[u8], usize); 6] = [
-        (b"0", 0),
-        (b"7", 7),
-        (b"007", 7),
-        (b"65536", 65_536),
-        (b"18446744073709551615", 18_446_744_073_709_551_615),
-        (b"0000000000000000000000012", 12),
-    ];
-    for (word, value) in good {
-        let read = read_number(word);
-        assert!(rt; read.is_ok_and(|number| number == value), "{word:?}");
-    }
-    let bad: [&[u8]; 8] = [b"", b"+1", b"-1", b"1a", b"a", b" 1", b"1.0", b"\xd9\xa1"];
-    for word in bad {
-        let read = read_number(word);
-        assert!(rt; matches!(read, Err(NumberFault::Digits)), "{word:?}");
-    }
-    let large: [&[u8]; 2] = [b"18446744073709551616", b"99999999999999999999999"];
-    for word in large {
-        let read = read_number(word);
-        assert!(rt; matches!(read, Err(NumberFault::Large)), "{word:?}");
+fn words(rt: HostRuntime) {
+    for (number, case) in CASES.iter().enumerate() {
+        assert!(rt; holds(rt.alloc(), case), "case {number}");
     }
 }

@@ -34,41 +34,70 @@ const DAMAGED: [&[u8]; 20] = [
     b"\xff",
 ];
 
+// What is asked of the strings that are counted.
+#[derive(Clone, Copy)]
+enum Question {
+    Text,
+    Styled,
+    Character,
+}
+
+// How many strings of one byte or two are texts, styled texts, or have a character at their front.
+// One byte: LF and the 95 characters from U+0020 to U+007E are texts, and the 128 bytes of ASCII are characters.
+// Two bytes: two of the 96 texts of one byte, or one of the 2,048 - 160 characters from U+00A0 to U+07FF: 9,216 + 1,888 texts, also as styled texts, since a
+// style sequence has three bytes. A character at the front: 128 ASCII bytes before any byte, or one of the 2,048 - 128 characters of two bytes.
+const COUNTS: [(Question, usize, usize); 5] = [
+    (Question::Text, 1, 96),
+    (Question::Character, 1, 128),
+    (Question::Text, 2, 11_104),
+    (Question::Styled, 2, 11_104),
+    (Question::Character, 2, 34_688),
+];
+
 #[test]
-fn damaged_bytes_are_refused(rt: HostRuntime) {
+fn damage_is_found(rt: HostRuntime) {
     for bytes in DAMAGED {
-        assert!(rt; char_at(bytes, 0).is_none());
-        assert_eq!(rt; check_text(bytes), Err(Refusal::Text));
-        assert_eq!(rt; check_styled(bytes), Err(Refusal::Text));
+        assert!(rt; is_damaged(bytes));
     }
+    for (question, len, count) in COUNTS {
+        assert!(rt; count_of(question, len) == count);
+    }
+    assert!(rt; is_found_at_the_end());
+}
+
+fn is_damaged(bytes: &[u8]) -> bool {
+    char_at(bytes, 0).is_none()
+        && check_text(bytes) == Err(Refusal::Text)
+        && check_styled(bytes) == Err(Refusal::Text)
 }
 
 // What stands before damaged bytes does not make them good.
-#[test]
-fn damage_is_found_at_the_end(rt: HostRuntime) {
-    assert_eq!(rt; check_text(b"ab\xc3"), Err(Refusal::Text));
-    assert!(rt; char_at(b"ab\xc3", 2).is_none());
-    assert!(rt; char_at(b"ab", 2).is_none());
-    assert!(rt; char_at(b"ab", 3).is_none());
+fn is_found_at_the_end() -> bool {
+    check_text(b"ab\xc3") == Err(Refusal::Text)
+        && char_at(b"ab\xc3", 2).is_none()
+        && char_at(b"ab", 2).is_none()
+        && char_at(b"ab", 3).is_none()
 }
 
-// One byte: LF and the 95 characters from U+0020 to U+007E are texts, and the 128 bytes of ASCII are characters.
-#[test]
-fn all_strings_of_one_byte(rt: HostRuntime) {
-    let texts = (0..=u8::MAX).filter(|byte| check_text(&[*byte]).is_ok());
-    let characters = (0..=u8::MAX).filter(|byte| char_at(&[*byte], 0).is_some());
-    assert_eq!(rt; texts.count(), 96);
-    assert_eq!(rt; characters.count(), 128);
+fn count_of(question: Question, len: usize) -> usize {
+    let last = if len == 1 { 0xff } else { u16::MAX };
+    (0..=last)
+        .filter(|number| is_so(question, &number.to_be_bytes(), len))
+        .count()
 }
 
-// Two bytes: two of the 96 texts of one byte, or one of the 2,048 - 160 characters from U+00A0 to U+07FF: 9,216 + 1,888 texts, also as styled texts, since a
-// style sequence has three bytes. A character at the front: 128 ASCII bytes before any byte, or one of the 2,048 - 128 characters of two bytes.
-#[test]
-fn all_strings_of_two_bytes(rt: HostRuntime) {
-    let texts = (0..=u16::MAX).filter(|pair| check_text(&pair.to_be_bytes()).is_ok());
-    let styled = (0..=u16::MAX).filter(|pair| check_styled(&pair.to_be_bytes()).is_ok());
-    let characters = (0..=u16::MAX).filter(|pair| char_at(&pair.to_be_bytes(), 0).is_some());
-    assert_eq!(rt; texts.count(), 11_104);
-    assert_eq!(rt; styled.count(), 11_104);
-    assert_eq!(rt; characters.count(), 34_688);
+// The answer for the last bytes of two.
+fn is_so(question: Question, pair: &[u8; 2], len: usize) -> bool {
+    let [_, byte] = *pair;
+    let one = [byte];
+    let bytes = if len == 1 {
+        one.as_slice()
+    } else {
+        pair.as_slice()
+    };
+    match question {
+        Question::Text => check_text(bytes).is_ok(),
+        Question::Styled => check_styled(bytes).is_ok(),
+        Question::Character => char_at(bytes, 0).is_some(),
+    }
 }

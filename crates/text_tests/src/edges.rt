@@ -1,5 +1,5 @@
-// The first and the last character of each range, and the places between characters.
-use std::alloc::AllocError;
+// The first and the last character of each range, the places between characters, and the refusals.
+use std::alloc::{AllocError, Global};
 use std::test::Fail;
 use text::decode::{char_at, is_control, is_good};
 use text::refusal::Refusal;
@@ -25,37 +25,6 @@ const EDGES: [(char, &[u8], bool); 16] = [
     ('\u{10ffff}', b"\xf4\x8f\xbf\xbf", false),
 ];
 
-#[test]
-fn edges_are_read(rt: HostRuntime) -> Result<(), Fail> {
-    for (code, bytes, control) in EDGES {
-        let good = code == '\n' || !control;
-        assert_eq!(rt; is_control(code), control);
-        assert_eq!(rt; is_good(code), good);
-        assert_eq!(rt; check_text(bytes).is_ok(), good);
-        let found = char_at(bytes, 0).ok_or("no character")?;
-        assert_eq!(rt; found.code, code);
-        assert_eq!(rt; found.len, bytes.len());
-    }
-    Ok(())
-}
-
-#[test]
-fn the_empty_text_is_good(rt: HostRuntime) {
-    assert!(rt; check_text(b"").is_ok());
-    assert!(rt; char_at(b"", 0).is_none());
-    assert!(rt; is_boundary(b"", 0));
-}
-
-// One character of each length, from one byte to four: the text may be cut at 0, 1, 3, 6 and 10.
-#[test]
-fn places(rt: HostRuntime) {
-    let text = b"a\xc3\xa9\xe2\x82\xac\xf0\x9f\x98\x80";
-    let ends = [0, 1, 3, 6, 10];
-    for at in 0..12 {
-        assert_eq!(rt; is_boundary(text, at), ends.contains(&at));
-    }
-}
-
 // Each refusal with its number and its word.
 const REFUSALS: [(Refusal, u8, &str); 7] = [
     (Refusal::Size, 1, "size"),
@@ -68,13 +37,38 @@ const REFUSALS: [(Refusal, u8, &str); 7] = [
 ];
 
 #[test]
-fn refusals_have_numbers_and_words(rt: HostRuntime) -> Result<(), AllocError> {
-    for (refusal, number, word) in REFUSALS {
-        assert_eq!(rt; u8::from(refusal), number);
-        assert_eq!(rt; refusal.word(), word);
-        let shown = format!(in rt.alloc(); "{refusal}")?;
-        let expected = format!(in rt.alloc(); "{number} {word}")?;
-        assert!(rt; shown == expected);
+fn edges_are_read(rt: HostRuntime) -> Result<(), Fail> {
+    for (code, bytes, control) in EDGES {
+        assert!(rt; is_read(code, bytes, control));
     }
+    for (refusal, number, word) in REFUSALS {
+        assert!(rt; is_shown(rt.alloc(), refusal, number, word)?);
+    }
+    assert!(rt; places());
     Ok(())
+}
+
+fn is_read(code: char, bytes: &[u8], control: bool) -> bool {
+    let good = code == '\n' || !control;
+    let is_found = char_at(bytes, 0).is_some_and(|it| it.code == code && it.len == bytes.len());
+    is_control(code) == control
+        && is_good(code) == good
+        && check_text(bytes).is_ok() == good
+        && is_found
+}
+
+fn is_shown(heap: Global, refusal: Refusal, number: u8, word: &str) -> Result<bool, AllocError> {
+    let shown = format!(in heap; "{refusal}")?;
+    let expected = format!(in heap; "{number} {word}")?;
+    Ok(u8::from(refusal) == number && refusal.word() == word && shown == expected)
+}
+
+// The empty text is good. In another stands one character of each length, from one byte to four: it may be cut at 0, 1, 3, 6 and 10.
+fn places() -> bool {
+    let text = b"a\xc3\xa9\xe2\x82\xac\xf0\x9f\x98\x80";
+    let ends = [0, 1, 3, 6, 10];
+    check_text(b"").is_ok()
+        && char_at(b"", 0).is_none()
+        && is_boundary(b"", 0)
+        && (0..12).all(|at| is_boundary(text, at) == ends.contains(&at))
 }

@@ -15,20 +15,23 @@ const LINES: [(&[u8], &[&[u8]]); 8] = [
     (b"a\n\n", &[b"a", b""]),
 ];
 
-#[test]
-fn lines_end_at_lf(rt: HostRuntime) {
-    for (bytes, lines) in LINES {
-        assert_eq!(rt; Lines::new(bytes).count(), lines.len());
-        assert!(rt; Lines::new(bytes).eq(lines.iter().copied()));
-    }
-}
+// Texts, and the answer on at most so many bytes: a text is refused as text before it is refused as too long.
+const LENGTHS: [(&[u8], usize, Result<(), Refusal>); 5] = [
+    (b"abc", 3, Ok(())),
+    (b"abc", 2, Err(Refusal::Long)),
+    (b"ab\t", 2, Err(Refusal::Text)),
+    (b"ab\t", 3, Err(Refusal::Text)),
+    (b"", 0, Ok(())),
+];
 
-// A text is refused as text before it is refused as too long.
+// Lines end at LF.
 #[test]
-fn lengths(rt: HostRuntime) {
-    assert_eq!(rt; check_text_within(b"abc", 3), Ok(()));
-    assert_eq!(rt; check_text_within(b"abc", 2), Err(Refusal::Long));
-    assert_eq!(rt; check_text_within(b"ab\t", 2), Err(Refusal::Text));
-    assert_eq!(rt; check_text_within(b"ab\t", 3), Err(Refusal::Text));
-    assert_eq!(rt; check_text_within(b"", 0), Ok(()));
+fn lines_and_lengths(rt: HostRuntime) {
+    for (bytes, lines) in LINES {
+        let count = Lines::new(bytes).count();
+        assert!(rt; count == lines.len() && Lines::new(bytes).eq(lines.iter().copied()));
+    }
+    for (bytes, most, answer) in LENGTHS {
+        assert!(rt; check_text_within(bytes, most) == answer);
+    }
 }

@@ -31,53 +31,53 @@ const BAD: [&[u8]; 10] = [
 ];
 
 #[test]
-fn good_styled_texts_show(rt: HostRuntime) {
+fn styled_texts_show(rt: HostRuntime) {
     for (bytes, shows) in GOOD {
-        let mut out = [b'.'; 16];
-        let len = shows.len();
-        assert_eq!(rt; check_styled(bytes), Ok(len));
-        assert_eq!(rt; visible_text(bytes, &mut out), Ok(len));
-        assert!(rt; out.starts_with(shows));
+        assert!(rt; is_shown(bytes, shows));
     }
+    for bytes in BAD {
+        assert!(rt; is_refused(bytes));
+    }
+    assert!(rt; has_room() && prompts());
 }
 
-#[test]
-fn bad_styled_texts_are_refused(rt: HostRuntime) {
-    for bytes in BAD {
-        let mut out = [b'.'; 4];
-        assert_eq!(rt; check_styled(bytes), Err(Refusal::Text));
-        assert_eq!(rt; visible_text(bytes, &mut out), Err(Refusal::Text));
-        assert!(rt; out == *b"....");
-        assert_eq!(rt; visible_text(bytes, &mut []), Err(Refusal::Text));
-    }
+fn is_shown(bytes: &[u8], shows: &[u8]) -> bool {
+    let mut out = [b'.'; 16];
+    let answer = Ok(shows.len());
+    check_styled(bytes) == answer
+        && visible_text(bytes, &mut out) == answer
+        && out.starts_with(shows)
+}
+
+fn is_refused(bytes: &[u8]) -> bool {
+    let answer = Err(Refusal::Text);
+    check_styled(bytes) == answer
+        && leaves(bytes, answer, *b"....")
+        && visible_text(bytes, &mut []) == answer
+}
+
+// Whether the answer for a visible text comes, and what held dots is left so.
+fn leaves<const N: usize>(bytes: &[u8], answer: Result<usize, Refusal>, left: [u8; N]) -> bool {
+    let mut out = [b'.'; N];
+    visible_text(bytes, &mut out) == answer && out == left
 }
 
 // A visible text of three bytes, and room for one less, as many and one more.
-#[test]
-fn room(rt: HostRuntime) {
+fn has_room() -> bool {
     let bytes = b"\x1b[1m\xc3\xa9\x1b[m!";
-    let mut short = [b'.'; 2];
-    assert_eq!(rt; visible_text(bytes, &mut short), Err(Refusal::Long));
-    assert!(rt; short == *b"..");
-    let mut exact = [b'.'; 3];
-    assert_eq!(rt; visible_text(bytes, &mut exact), Ok(3));
-    assert!(rt; exact == *b"\xc3\xa9!");
-    let mut long = [b'.'; 4];
-    assert_eq!(rt; visible_text(bytes, &mut long), Ok(3));
-    assert!(rt; long == *b"\xc3\xa9!.");
+    leaves(bytes, Err(Refusal::Long), *b"..")
+        && leaves(bytes, Ok(3), *b"\xc3\xa9!")
+        && leaves(bytes, Ok(3), *b"\xc3\xa9!.")
 }
 
 // A prompt is no longer than the place for what it shows, so that one byte more is refused.
-#[test]
-fn prompts(rt: HostRuntime) {
+fn prompts() -> bool {
     let mut out = [b'.'; 4];
-    assert_eq!(rt; visible_prompt(b"\x1b[m>", &mut out), Ok(1));
-    assert!(rt; out == *b">...");
-    assert_eq!(rt; visible_prompt(b"\x1b[m>>", &mut out), Err(Refusal::Prompt));
-    assert_eq!(rt;
-        visible_prompt(b"\x1b[m\x07", &mut out),
-        Err(Refusal::Prompt)
-    );
-    assert_eq!(rt; visible_prompt(b"\t", &mut out), Err(Refusal::Prompt));
-    assert!(rt; out == *b">...");
+    let answer = Err(Refusal::Prompt);
+    visible_prompt(b"\x1b[m>", &mut out) == Ok(1)
+        && out == *b">..."
+        && visible_prompt(b"\x1b[m>>", &mut out) == answer
+        && visible_prompt(b"\x1b[m\x07", &mut out) == answer
+        && visible_prompt(b"\t", &mut out) == answer
+        && out == *b">..."
 }
