@@ -3,6 +3,7 @@ use lib.Utf8.{encode}
 use Rattle.std.proofs.Common.{refl}
 use Rattle.screen.specs.Bytes.{act, begin, finish, move, step_in}
 use Rattle.screen.specs.Screen.{full, mark_at, on_row, place_col, place_row, placed, put_pen, split, wipe_from}
+use Rattle.worked.proofs.Checking.{worked-texts}
 use Rattle.worked.proofs.Paging.{worked-pages}
 use Rattle.worked.proofs.Reading.{worked-parameters}
 use Rattle.worked.proofs.Readying.{worked-ready}
@@ -68,4 +69,4 @@ worked-drops = record {
 }
 
 pub worked-proof : WorkedFacts
-worked-proof = record { places = worked-places; writes = worked-writes; pages = worked-pages; rules = worked-rules; asks = λ t z. worked-asks (world_of t) z; steps = λ t z. worked-steps (world_of t) z; runs = λ t z. worked-runs (world_of t) z; brackets = worked-brackets; halves = worked-halves; wrap = worked-wrap; marks = worked-marks; drops = worked-drops; parameters = worked-parameters; ready = worked-ready }
+worked-proof = record { places = worked-places; writes = worked-writes; pages = worked-pages; rules = worked-rules; asks = λ t z. worked-asks (world_of t) z; steps = λ t z. worked-steps (world_of t) z; runs = λ t z. worked-runs (world_of t) z; brackets = worked-brackets; halves = worked-halves; wrap = worked-wrap; marks = worked-marks; drops = worked-drops; parameters = worked-parameters; ready = worked-ready; texts = worked-texts }

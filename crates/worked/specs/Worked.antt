@@ -8,6 +8,7 @@ use Rattle.worked.specs.Readiness.{WorkedReady}
 use Rattle.worked.specs.Rows.{WorkedDrops, WorkedHalves, WorkedMarks, WorkedParameters, WorkedWrap}
 use Rattle.worked.specs.Rules.{WorkedRules}
 use Rattle.worked.specs.Steps.{Tests, WorkedAsks, WorkedRuns, WorkedSteps, world_of}
+use Rattle.worked.specs.Texts.{WorkedTexts}
 use Rattle.worked.specs.Writes.{WorkedWrites}
 
 -- every example holds
@@ -26,3 +27,4 @@ pub record WorkedFacts : Type 0 where
   pub drops : WorkedDrops
   pub parameters : WorkedParameters
   pub ready : WorkedReady
+  pub texts : WorkedTexts
