@@ -1,6 +1,6 @@
 #!/usr/bin/env python3
-"""Tries the slips in the definitions of `page`, of what `screen` says of output, of what a ready terminal is and of what the checks of texts
-answer by the worked facts, and says which facts fail under each.
+"""Tries the slips in the definitions of `page`, of what `screen` says of output, of what a ready terminal is, of what the checks of texts
+answer and of which bracket is lit by the worked facts, and says which facts fail under each.
 
     tools/planted_facts.py [--scratch FOLDER] [--only WORD]
 
@@ -23,10 +23,10 @@ import plant_bugs
 
 ROOT = plant_bugs.ROOT
 BELOW = ["text", "widths", "layout", "screen", "terminal", "highlight", "page", "worked"]
-DEFINITIONS = {"page": ["Acts", "Output", "Page", "Rules", "Law", "Runs"], "screen": ["Output", "Sequences"], "terminal": ["Windows"], "text": ["Checks"]}
-FACTS = ["Writes", "Pages", "Rules", "Steps", "Rows", "Readiness", "Texts"]
+DEFINITIONS = {"page": ["Acts", "Output", "Page", "Rules", "Law", "Runs"], "screen": ["Output", "Sequences"], "terminal": ["Windows"], "text": ["Checks"], "highlight": ["Brackets", "Lighting"]}
+FACTS = ["Writes", "Pages", "Rules", "Steps", "Rows", "Readiness", "Texts", "Brackets"]
 MODULES = [(crate, it) for crate, modules in DEFINITIONS.items() for it in modules]
-PROOFS = ["Writing", "Paging", "Refusing", "Stepping", "Reading", "Readying", "Checking"]
+PROOFS = ["Writing", "Paging", "Refusing", "Stepping", "Reading", "Readying", "Checking", "Bracketing"]
 
 
 def renamed(text, mark):

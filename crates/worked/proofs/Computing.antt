@@ -3,6 +3,7 @@ use lib.Utf8.{encode}
 use Rattle.std.proofs.Common.{refl}
 use Rattle.screen.specs.Bytes.{act, begin, finish, move, step_in}
 use Rattle.screen.specs.Screen.{full, mark_at, on_row, place_col, place_row, placed, put_pen, split, wipe_from}
+use Rattle.worked.proofs.Bracketing.{worked-brackets}
 use Rattle.worked.proofs.Checking.{worked-texts}
 use Rattle.worked.proofs.Paging.{worked-pages}
 use Rattle.worked.proofs.Reading.{worked-parameters}
@@ -10,7 +11,6 @@ use Rattle.worked.proofs.Readying.{worked-ready}
 use Rattle.worked.proofs.Refusing.{worked-rules}
 use Rattle.worked.proofs.Writing.{worked-writes}
 use Rattle.worked.proofs.Stepping.{worked-asks, worked-runs, worked-steps}
-use Rattle.worked.specs.Brackets.{WorkedBrackets}
 use Rattle.worked.specs.Places.{WorkedPlaces}
 use Rattle.worked.specs.Rows.{WorkedDrops, WorkedHalves, WorkedMarks, WorkedWrap}
 use Rattle.worked.specs.Steps.{world_of}
@@ -23,18 +23,6 @@ worked-places = record {
   one_more = record { measuring = λ tab. refl; drawing = refl };
   wide = record { measuring = λ tab. refl; drawing = refl };
   newline = record { measuring = λ tab. refl; drawing = refl };
-}
-
-worked-brackets : WorkedBrackets
-worked-brackets = record {
-  found-behind = refl;
-  lit-behind = refl;
-  found-under = refl;
-  lit-under = refl;
-  opening-alone = refl;
-  plain-opening = refl;
-  closing-alone = refl;
-  plain-closing = refl;
 }
 
 worked-halves : WorkedHalves

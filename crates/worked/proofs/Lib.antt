@@ -1,3 +1,4 @@
+pub mod Bracketing
 pub mod Checking
 pub mod Readying
 pub mod Reading
