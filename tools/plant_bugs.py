@@ -147,9 +147,11 @@ def try_own(scratch, name, edits):
 
 
 def function_at(text, at):
-    """The function in which a place of a text lies, as its number among the text's functions, and its name."""
-    found = list(re.finditer(r"^ *(?:pub(?:\([a-z]+\))? )?fn (\w+)", text[:at], re.M))
-    return (len(found), found[-1][1]) if found else (0, "")
+    """The function in which a place of a text lies, as its number among the text's functions, and its name; 0 where it is in none, as a constant."""
+    found = list(re.finditer(r"^( *)(?:pub(?:\([a-z]+\))? )?fn (\w+)", text[:at], re.M))
+    if not found or f"\n{found[-1][1]}}}\n" in text[found[-1].start() : at]:
+        return 0, ""
+    return len(found), found[-1][2]
 
 
 def homes_of(folder, pairs):
@@ -168,7 +170,7 @@ def blames(line, homes, texts, name):
     if not at:
         return False
     if at[1].startswith("proofs/"):
-        return any(function in at[1].split("/") for _, _, function in homes)
+        return any(function in at[1].replace("/+", "/").split("/") for _, _, function in homes)
     file = at[1].removeprefix(f"crates/{name}/")
     if file not in texts:
         return False

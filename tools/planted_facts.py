@@ -1,10 +1,11 @@
 #!/usr/bin/env python3
-"""Tries the slips in the definitions of `page`, and of what `screen` says of output, by the worked facts, and says which facts fail under each.
+"""Tries the slips in the definitions of `page`, of what `screen` says of output, of what a ready terminal is, of what the checks of texts
+answer and of which bracket is lit by the worked facts, and says which facts fail under each.
 
     tools/planted_facts.py [--scratch FOLDER] [--only WORD]
 
 A slip in a definition is mostly refused because a proof written for the text as it was no longer fits, which says little. Here no lemma of
-the two crates stands in the way: for each slip their definitions with the slip, and the worked facts about them (`crates/worked`), are
+these crates stands in the way: for each slip their definitions with the slip, and the worked facts about them (`crates/worked`), are
 written under names of their own into one crate of a copy of the repository, and one `rt check` of that crate says which facts are false.
 One such set has no slip, and all of its facts are to hold. A slip under which all facts are true is not judged by this.
 
@@ -22,10 +23,10 @@ import plant_bugs
 
 ROOT = plant_bugs.ROOT
 BELOW = ["text", "widths", "layout", "screen", "terminal", "highlight", "page", "worked"]
-DEFINITIONS = {"page": ["Acts", "Output", "Page", "Rules", "Law", "Runs"], "screen": ["Output", "Sequences"]}
-FACTS = ["Writes", "Pages", "Rules", "Steps", "Rows"]
+DEFINITIONS = {"page": ["Acts", "Output", "Page", "Rules", "Law", "Runs"], "screen": ["Output", "Sequences"], "terminal": ["Windows"], "text": ["Checks"], "highlight": ["Brackets", "Lighting"]}
+FACTS = ["Writes", "Pages", "Rules", "Steps", "Rows", "Readiness", "Texts", "Brackets"]
 MODULES = [(crate, it) for crate, modules in DEFINITIONS.items() for it in modules]
-PROOFS = ["Writing", "Paging", "Refusing", "Stepping", "Reading"]
+PROOFS = ["Writing", "Paging", "Refusing", "Stepping", "Reading", "Readying", "Checking", "Bracketing"]
 
 
 def renamed(text, mark):

@@ -1,22 +1,20 @@
 -- The examples, computed.
 use lib.Utf8.{encode}
 use Rattle.std.proofs.Common.{refl}
-use Rattle.page.specs.Page.{Page}
 use Rattle.screen.specs.Bytes.{act, begin, finish, move, step_in}
 use Rattle.screen.specs.Screen.{full, mark_at, on_row, place_col, place_row, placed, put_pen, split, wipe_from}
-use Rattle.std.specs.Fmt.{digits}
-use Rattle.std.specs.Str.{chars}
+use Rattle.worked.proofs.Bracketing.{worked-brackets}
+use Rattle.worked.proofs.Checking.{worked-texts}
 use Rattle.worked.proofs.Paging.{worked-pages}
 use Rattle.worked.proofs.Reading.{worked-parameters}
+use Rattle.worked.proofs.Readying.{worked-ready}
 use Rattle.worked.proofs.Refusing.{worked-rules}
 use Rattle.worked.proofs.Writing.{worked-writes}
 use Rattle.worked.proofs.Stepping.{worked-asks, worked-runs, worked-steps}
-use Rattle.worked.specs.Brackets.{WorkedBrackets}
 use Rattle.worked.specs.Places.{WorkedPlaces}
 use Rattle.worked.specs.Rows.{WorkedDrops, WorkedHalves, WorkedMarks, WorkedWrap}
 use Rattle.worked.specs.Steps.{world_of}
 use Rattle.worked.specs.Worked.{WorkedFacts}
-use Rattle.worked.specs.Writes.{WorkedWrites}
 
 worked-places : WorkedPlaces
 unfolding put_pen place_row place_col full
@@ -25,18 +23,6 @@ worked-places = record {
   one_more = record { measuring = λ tab. refl; drawing = refl };
   wide = record { measuring = λ tab. refl; drawing = refl };
   newline = record { measuring = λ tab. refl; drawing = refl };
-}
-
-worked-brackets : WorkedBrackets
-worked-brackets = record {
-  found-behind = refl;
-  lit-behind = refl;
-  found-under = refl;
-  lit-under = refl;
-  opening-alone = refl;
-  plain-opening = refl;
-  closing-alone = refl;
-  plain-closing = refl;
 }
 
 worked-halves : WorkedHalves
@@ -71,4 +57,4 @@ worked-drops = record {
 }
 
 pub worked-proof : WorkedFacts
-worked-proof = record { places = worked-places; writes = worked-writes; pages = worked-pages; rules = worked-rules; asks = λ t z. worked-asks (world_of t) z; steps = λ t z. worked-steps (world_of t) z; runs = λ t z. worked-runs (world_of t) z; brackets = worked-brackets; halves = worked-halves; wrap = worked-wrap; marks = worked-marks; drops = worked-drops; parameters = worked-parameters }
+worked-proof = record { places = worked-places; writes = worked-writes; pages = worked-pages; rules = worked-rules; asks = λ t z. worked-asks (world_of t) z; steps = λ t z. worked-steps (world_of t) z; runs = λ t z. worked-runs (world_of t) z; brackets = worked-brackets; halves = worked-halves; wrap = worked-wrap; marks = worked-marks; drops = worked-drops; parameters = worked-parameters; ready = worked-ready; texts = worked-texts }

@@ -1,3 +1,6 @@
+pub mod Bracketing
+pub mod Checking
+pub mod Readying
 pub mod Reading
 pub mod Writing
 pub mod Paging

@@ -1,5 +1,4 @@
 -- The examples about pages, computed.
-use lib.Utf8.{encode}
 use Rattle.std.proofs.Common.{refl}
 use Rattle.page.specs.Page.{Page}
 use Rattle.screen.specs.Screen.{full, on_row, over, place_col, place_row, placed, put_pen, split}

@@ -1,17 +1,17 @@
 -- The examples about refusals.
-use Rattle.std.proofs.Common.{◌≡◌, ℕ, ◌<◌, ◌≤◌, Bool, true, false, List, [], ◌∷◌, length, IsUtf8, Some, None, Option, refl, sym, ◌∙◌, inl, inr, arith}
+use Rattle.std.proofs.Common.{◌≡◌, false, [], ◌∷◌, None, Option, refl, sym, inl, inr, arith}
 use lib.Utf8.{encode}
 use borrow.Author.Tests.{clash}
 use Rattle.page.specs.Acts.{message}
 use Rattle.page.specs.Page.{Page}
-use Rattle.screen.specs.Screen.{full, on_row, place_col, place_row, placed, put_pen, split}
+use Rattle.screen.specs.Screen.{full, place_row, put_pen}
 use Rattle.std.proofs.lemmas.Str.{IsUtf8-from_is_utf8, is_utf8-from_IsUtf8}
 use Rattle.std.specs.Str.{chars, is_utf8}
 use Rattle.std.specs.Prelude.{codes}
 use Rattle.text.specs.Texts.{GoodText}
 use Rattle.text.specs.declared.refusal.Refusal.{Refusal}
 use Rattle.worked.specs.Pages.{short}
-use Rattle.worked.specs.Rules.{RefusedIn, WorkedLimits, WorkedRefusals, WorkedRules, acute_e}
+use Rattle.worked.specs.Rules.{RefusedIn, WorkedLimits, WorkedRefusals, WorkedRules}
 
 -- the refusal of a message that is fine in a window of one row
 fine-alone : (p : Page) (r : Option Refusal) → GoodText (codes "b") → RefusedIn 1 false (Unit {0}) (message (codes "b")) (short p) r → r ≡ None

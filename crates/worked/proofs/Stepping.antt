@@ -1,5 +1,5 @@
 -- The examples about steps.
-use Rattle.std.proofs.Common.{◌≡◌, ℕ, suc, ◌-◌, Bool, true, false, cond, List, [], ◌∷◌, ◌++◌, length, take, drop, Ok, Err, Result, refl, sym, ap, ◌∙◌, subst, append-nil}
+use Rattle.std.proofs.Common.{◌≡◌, ℕ, ◌-◌, Bool, cond, List, [], ◌∷◌, ◌++◌, length, take, Ok, Err, Result, refl, sym, ap, ◌∙◌, append-nil}
 use Rattle.page.specs.Law.{Settings, World, Written, broke, done, geometry_of, later, next}
 use Rattle.page.specs.Page.{block_text}
 use Rattle.page.specs.declared.outcome.BrokenAct.{BrokenAct}

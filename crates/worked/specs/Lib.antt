@@ -1,6 +1,8 @@
 pub mod Places
 pub mod Brackets
 pub mod Rows
+pub mod Texts
+pub mod Readiness
 pub mod Writes
 pub mod Pages
 pub mod Rules

@@ -1,5 +1,5 @@
 -- What a step says of who is asked, of a refusal, and of the write that broke. Assumes nothing.
-use Rattle.std.specs.Prelude.{◌≡◌, ℕ, suc, Bool, true, false, map, List, [], ◌∷◌, length, take, drop, None, Ok, Err, Option, nat_lt}
+use Rattle.std.specs.Prelude.{◌≡◌, ℕ, suc, Bool, true, false, map, List, [], ◌∷◌, length, take, drop, Ok, Err, Option, nat_lt}
 use Rattle.page.specs.Acts.{Act, Replies, asks_hinter, clear, create, finish, go, insert, message, notice, refresh, set, stays}
 use Rattle.page.specs.Law.{Asks, Coloured, Entry, Moment, Settings, SizeFine, Stepped, Tears, Went, World, Written, draws, geometry_of, torn_after}
 use Rattle.page.specs.Page.{Page, Shows}

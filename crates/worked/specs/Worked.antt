@@ -4,9 +4,11 @@ use Rattle.page.specs.Page.{Page}
 use Rattle.worked.specs.Brackets.{WorkedBrackets}
 use Rattle.worked.specs.Pages.{WorkedPages}
 use Rattle.worked.specs.Places.{WorkedPlaces}
+use Rattle.worked.specs.Readiness.{WorkedReady}
 use Rattle.worked.specs.Rows.{WorkedDrops, WorkedHalves, WorkedMarks, WorkedParameters, WorkedWrap}
 use Rattle.worked.specs.Rules.{WorkedRules}
 use Rattle.worked.specs.Steps.{Tests, WorkedAsks, WorkedRuns, WorkedSteps, world_of}
+use Rattle.worked.specs.Texts.{WorkedTexts}
 use Rattle.worked.specs.Writes.{WorkedWrites}
 
 -- every example holds
@@ -24,3 +26,5 @@ pub record WorkedFacts : Type 0 where
   pub marks : WorkedMarks
   pub drops : WorkedDrops
   pub parameters : WorkedParameters
+  pub ready : WorkedReady
+  pub texts : WorkedTexts
