@@ -1,13 +1,14 @@
 //! Plays the same acts by the library and by the crate's text, into memory, and says what they cost.
 //!
 //!     bench time                          a table of times and ratios
-//!     bench play WORK BYTES MANY SIDE     plays once, for a counter of instructions; SIDE is ours or theirs
+//!     bench play WORK BYTES MANY SIDE     plays once, for a counter of instructions; SIDE is ours, theirs or idle: ours,
+//!                                         with the acts read but none of them performed
 //!     bench check                         compares what both sides write
 mod ours;
 mod work;
 
 use std::time::Instant;
-use work::{Script, many, script};
+use work::{Script, idle, many, script};
 
 const COLS: u16 = 80;
 const ROWS: u16 = 200;
@@ -41,7 +42,10 @@ fn play_theirs(s: &Script, out: &mut [u8]) -> (usize, usize, f64) {
 /// the seconds that each of the measured acts takes, and the bytes that it writes: the whole script less its preparation
 fn each(name: &str, bytes: usize, ours: bool) -> (f64, f64) {
     let n = many(name, bytes);
-    let (whole, none) = (script(name, bytes, n), script(name, bytes, 0));
+    let prepared = script(name, bytes, 0);
+    let (before, whole) = (prepared.len(), script(name, bytes, n));
+    // ours has a finish more
+    let (none, fewest) = if ours { (idle(name, bytes, n), before + 2) } else { (prepared, before + 1) };
     // as much memory as is written
     let mut out = vec![0u8; ROOM];
     let room = play_theirs(&whole, &mut out).1;
@@ -51,9 +55,9 @@ fn each(name: &str, bytes: usize, ours: bool) -> (f64, f64) {
     let from = Instant::now();
     let mut rounds = 0;
     while rounds < 5 || (from.elapsed().as_secs_f64() < 0.4 && rounds < 1000) {
-        for (i, s) in [&whole, &none].into_iter().enumerate() {
+        for (i, (s, wanted)) in [(&whole, whole.len() + 1), (&none, fewest)].into_iter().enumerate() {
             let (accepted, w, t) = if ours { play_ours(s, room, &mut []) } else { play_theirs(s, &mut out) };
-            assert_eq!(accepted, s.len() + 1, "{name} {bytes}");
+            assert_eq!(accepted, wanted, "{name} {bytes}");
             best[i] = best[i].min(t);
             written[i] = w;
         }
@@ -96,12 +100,13 @@ fn main() {
     match args.iter().map(String::as_str).collect::<Vec<_>>().as_slice() {
         ["time"] => time(),
         ["check"] => check(),
-        ["play", name, bytes, n, side] => {
-            let s = script(name, bytes.parse().unwrap(), n.parse().unwrap());
+        ["play", name, bytes, n, side @ ("ours" | "theirs" | "idle")] => {
+            let make = if *side == "idle" { idle } else { script };
+            let s = make(name, bytes.parse().unwrap(), n.parse().unwrap());
             let mut out = vec![0u8; ROOM];
-            let (accepted, written, _) = if *side == "ours" { play_ours(&s, ROOM, &mut []) } else { play_theirs(&s, &mut out) };
+            let (accepted, written, _) = if *side == "theirs" { play_theirs(&s, &mut out) } else { play_ours(&s, ROOM, &mut []) };
             println!("{accepted} {written}");
         }
-        _ => eprintln!("bench time | bench check | bench play WORK BYTES MANY ours|theirs"),
+        _ => eprintln!("bench time | bench check | bench play WORK BYTES MANY ours|theirs|idle"),
     }
 }

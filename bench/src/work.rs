@@ -86,6 +86,16 @@ pub fn script(name: &str, bytes: usize, many: usize) -> Script {
     s
 }
 
+/// the same acts for the library, none of the measured ones performed: a finish stands before them, which ends a run. They are
+/// still made of numbers, as those that are performed; the crate is given its acts ready made
+pub fn idle(name: &str, bytes: usize, many: usize) -> Script {
+    let mut s = script(name, bytes, 0);
+    let prepared = s.len();
+    s.add(7, "", 0);
+    for (kind, text, number) in script(name, bytes, many).acts.into_iter().skip(prepared) { s.add(kind, &text, number); }
+    s
+}
+
 /// how many acts are measured
 pub fn many(name: &str, bytes: usize) -> usize {
     let kind = name.strip_suffix("-ja").unwrap_or(name);

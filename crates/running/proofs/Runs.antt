@@ -1,5 +1,5 @@
 -- A run from its create on: what each turn keeps, and what the end has.
-use Rattle.std.proofs.Common.{◌≡◌, ℕ, Bool, zero, suc, ◌+◌, ◌<◌, ◌≤◌, true, false, List, [], ◌∷◌, ◌++◌, Some, None, Ok, Option, length, get_or, take, drop, sym, refl, ap, ◌∙◌, subst, append-nil, add-one, arith}
+use Rattle.std.proofs.Common.{◌≡◌, ℕ, Bool, zero, suc, ◌+◌, ◌<◌, ◌≤◌, true, false, List, [], ◌∷◌, ◌++◌, Some, None, Ok, Err, Option, length, get_or, take, drop, sym, refl, ap, ◌∙◌, subst, append-nil, add-one, arith}
 use borrow.Author.Tests.{clash}
 use Rattle.lines.specs.Lines.{line_of}
 use Rattle.lines.specs.Notes.{note_of}
@@ -10,9 +10,10 @@ use Rattle.page.specs.Law.{Moment, Settings, World}
 use Rattle.page.specs.Meaning.{Meant}
 use Rattle.page.specs.Rules.{Outcome}
 use Rattle.page.specs.Runs.{begins, closes}
+use Rattle.page.specs.declared.outcome.Rejection.{Rejection}
 use Rattle.running.proofs.Histories.{Lasting, acted-history, ended-history, lasting-none}
 use Rattle.running.proofs.Meanings.{raw-shown, styled-shown}
-use Rattle.session.specs.Acting.{Acted, state_of}
+use Rattle.session.specs.Acting.{Acted}
 use Rattle.session.specs.Creating.{Created, settled_by}
 use Rattle.running.specs.Deeds.{deed, deeds}
 use Rattle.running.specs.Observing.{Leaves, Observed}
@@ -71,13 +72,21 @@ module _ {T H O : Type 0} (told : O → T → Act → Outcome → Bool → O →
         (next.0, subst (λ (l : List Act). Lasting told w z t h o l true (moment_of n next.0) after) (sym (ap (λ k. deeds (take k acts)) (add-one i) ∙ deeds-more acts i d lt)) next.1);
   }
 
-  -- an act after which a session lives on
+  -- an act after which the session lives on
   pub onward-kept : (x y : State T H) (q p : O) (acts : List declared.Act) (i : ℕ) (d : declared.Act) → i < length acts → Onward x y q p (deeds (take i acts))
-      → (left : Option Session) (r : Outcome) (t : T) (h : H) (s : Session) (b : Tables) (after : O) → Performed w y (deed (get_or acts i d)) left r t h b → left ≡ Some s
-      → told p t (deed (get_or acts i d)) r (is_torn s.standing) after → Onward x (state_of t h s b) q after (deeds (take (i + 1) acts))
-  onward-kept x y q p acts i d lt past left r t h s b after does is now =
-      let live = subst (λ (o : Option Session). Performed w y (deed (get_or acts i d)) o r t h b) is does in
-      onward-more x y q p acts i d lt past r (state_of t h s b) after live.0 live.1 now
+      → (how : Option Outcome) (r : Outcome) (n : State T H) (after : O) → Performed w y (deed (get_or acts i d)) how n → how ≡ Some r
+      → told p n.terminal (deed (get_or acts i d)) r (is_torn n.session.standing) after → Onward x n q after (deeds (take (i + 1) acts))
+  onward-kept x y q p acts i d lt past how r n after does is now =
+      let live = subst (λ (o : Option Outcome). Performed w y (deed (get_or acts i d)) o n) is does in
+      onward-more x y q p acts i d lt past r n after live.0 live.1 now
+
+  -- a finish that is not accepted
+  pub onward-back : (x y : State T H) (q p : O) (acts : List declared.Act) (i : ℕ) (d : declared.Act) → i < length acts → Onward x y q p (deeds (take i acts))
+      → (how : Option Outcome) (n m : State T H) (e : Rejection) (after : O) → Performed w y (deed (get_or acts i d)) how n → how ≡ None → Acted w n finish (Err e) m
+      → told p m.terminal (deed (get_or acts i d)) (Err e) (is_torn m.session.standing) after → Onward x m q after (deeds (take (i + 1) acts))
+  onward-back x y q p acts i d lt past how n m e after does is act now =
+      let bare = subst (λ (o : Option Outcome). Performed w y (deed (get_or acts i d)) o n) is does in
+      onward-more x y q p acts i d lt past (Err e) m after (subst (λ (b : Act). Acted w y b (Err e) m) (sym bare.0) (subst (λ (k : State T H). Acted w k finish (Err e) m) bare.1 act)) (ap (λ (b : Act). closes b (Err e)) bare.0) now
 
   module _ (meant : Meant w) (setup : Setup) (t : T) (h : H) (o : O) (x : State T H) (r : Outcome) (q : O) (before : List ℕ) (made : Created w setup t h before r x) (now : told o x.terminal create r (is_torn x.session.standing) q) (acts : List declared.Act) where
     abbrev z : Settings
@@ -110,12 +119,13 @@ module _ {T H O : Type 0} (told : O → T → Act → Outcome → Bool → O →
         (λ e. absurd (clash e)) (ended-history told w z t h o (deeds (take i acts)) y u k c p after (past.settings ∙ made.settings) past.sound end heard before.0 before.1)
         (record { line = ap line_of same.line; pos = ap (λ (l : LineBuffer). l.pos) same.line; note = ap note_of same.note; hint = ap note_of same.hint })
 
-    -- an act after which no session lives on
+    -- a finish that is accepted, where nothing else was done
     pub ran-closed : (y : State T H) (p : O) (i : ℕ) (d : declared.Act) → i < length acts → Onward x y q p (deeds (take i acts))
-        → (left : Option Session) (e : Outcome) (u : T) (k : H) (b : Tables) (after : O) → Performed w y (deed (get_or acts i d)) left e u k b → left ≡ None → told p u (deed (get_or acts i d)) e false after → Observed told w z t h (deeds acts) false u k o after None b
-    ran-closed y p i d lt past left e u k b after does is heard =
-        let end = subst (λ (s : Option Session). Performed w y (deed (get_or acts i d)) s e u k b) is does in
-        ran-ended y p i d u k b after lt end.0 end.2 end.3 (subst (λ (a : Act). told p u a (Ok tt) false after) end.0 (subst (λ (f : Outcome). told p u (deed (get_or acts i d)) f false after) end.1 heard)) past
+        → (how : Option Outcome) (n : State T H) (u : T) (k : H) (b : Tables) (after : O) → Performed w y (deed (get_or acts i d)) how n → how ≡ None → Ended w n u k b → SameTexts n.tables b
+        → told p u (deed (get_or acts i d)) (Ok tt) false after → Observed told w z t h (deeds acts) false u k o after None b
+    ran-closed y p i d lt past how n u k b after does is end same heard =
+        let bare = subst (λ (e : Option Outcome). Performed w y (deed (get_or acts i d)) e n) is does in
+        ran-ended y p i d u k b after lt bare.0 (subst (λ (s : State T H). Ended w s u k b) bare.1 end) (subst (λ (s : State T H). SameTexts s.tables b) bare.1 same) (subst (λ (a : Act). told p u a (Ok tt) false after) bare.0 heard) past
 
     -- no act is left
     pub ran-over : (y : State T H) (p : O) (i : ℕ) → length acts ≤ i → Onward x y q p (deeds (take i acts)) → Observed told w z t h (deeds acts) true y.terminal y.highlighter o p (Some y.session) y.tables

@@ -47,15 +47,18 @@ pub fn run<T: Terminal, H: Highlighter, N: Hinter, O: Observer<T>>(
     observer.created(terminal, outcome, first.is_torn());
     let mut session = first;
     for act in acts {
-        let (left, outcome) = perform(session, tables, terminal, highlighter, hinter, act);
-        match left {
-            Some(next) => {
-                observer.acted(terminal, act, outcome, next.is_torn());
-                session = next;
-            }
-            None => {
-                observer.acted(terminal, act, outcome, false);
+        if let Some(outcome) = perform(&mut session, tables, terminal, highlighter, hinter, act) {
+            observer.acted(terminal, act, outcome, session.is_torn());
+            continue;
+        }
+        match session.finish(tables, terminal, highlighter) {
+            Ok(()) => {
+                observer.acted(terminal, act, Ok(()), false);
                 return None;
+            }
+            Err((back, rejection)) => {
+                observer.acted(terminal, act, Err(rejection), back.is_torn());
+                session = back;
             }
         }
     }
