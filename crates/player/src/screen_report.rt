@@ -1,9 +1,19 @@
 // The screen as a report shows it.
+ghost use Rattle.std.specs.Prelude.{◌≡◌};
+ghost use Rattle.player.specs.Reports.{sign_of};
+
 use crate::fault::PlayFault;
 use crate::visible::Visible;
 use screen::cells::Cell;
 use std::fmt;
 use terminal::size::Size;
+
+// The sign for a character: a middle dot for U+0020, which a blank is not to be taken for.
+fn sign_of(c: char) -> char
+    ensures { result ≡ sign_of c }
+{
+    if c == ' ' { '\u{b7}' } else { c }
+}
 
 // A row as it stands on the screen: a blank as a space, and the character U+0020 as a middle dot.
 #[derive(Drop)]
@@ -19,7 +29,7 @@ impl<S: Visible> fmt::Display for Row<'_, S> {
             match self.terminal.cell(self.row, col) {
                 Cell::Blank => f.write_char(' ')?,
                 Cell::Glyph(c, mark) => {
-                    f.write_char(if c == ' ' { '\u{b7}' } else { c })?;
+                    f.write_char(sign_of(c))?;
                     if let Some(m) = mark {
                         f.write_char(m)?;
                     }
