@@ -1,6 +1,7 @@
 // The screen as a report shows it.
-ghost use Rattle.std.specs.Prelude.{◌≡◌};
+ghost use Rattle.std.specs.Prelude.{◌≡◌, true};
 ghost use Rattle.player.specs.Reports.{sign_of};
+ghost use Rattle.player.specs.Rows.{BlankRow, LastRow};
 
 use crate::fault::PlayFault;
 use crate::visible::Visible;
@@ -42,7 +43,9 @@ impl<S: Visible> fmt::Display for Row<'_, S> {
 }
 
 // Whether every cell of a row is blank.
-fn is_blank_row<S: Visible>(terminal: &S, row: usize, cols: usize) -> bool {
+fn is_blank_row<S: Visible>(terminal: &S, row: usize, cols: usize) -> bool
+    ensures { result ≡ true → BlankRow cols (S.Visible.seen terminal.now) row }
+{
     for col in 0..cols {
         match terminal.cell(row, col) {
             Cell::Blank => {}
@@ -54,7 +57,9 @@ fn is_blank_row<S: Visible>(terminal: &S, row: usize, cols: usize) -> bool {
 }
 
 // The last row that is not blank or holds the cursor; below the window all rows are blank.
-fn last_row<S: Visible>(terminal: &S, rows: usize, cols: usize) -> usize {
+fn last_row<S: Visible>(terminal: &S, rows: usize, cols: usize) -> usize
+    ensures { LastRow rows cols (S.Visible.seen terminal.now) result }
+{
     let end = terminal.top().saturating_add(rows);
     for row in (terminal.row()..end).rev() {
         if !is_blank_row(terminal, row, cols) {
