@@ -1,4 +1,6 @@
 // What is printed of each caption.
+ghost use Rattle.std.specs.Prelude.{◌≡◌, ◌+◌, ◌<◌, ◌^◌, max};
+
 use crate::fault::Fault;
 use crate::options::Options;
 use grid::grid::Grid;
@@ -69,6 +71,34 @@ struct Tally {
     highest: u16,
 }
 
+impl Tally {
+    // What is told when one more stands, and ends in a row.
+    fn with_end(self, row: u16) -> Tally
+        ensures stand { self.stand + 1 < 2 ^ 64 → result.stand ≡ self.stand + 1 }
+        ensures refused { result.refused ≡ self.refused }
+        ensures highest { row + 1 < 2 ^ 16 → result.highest ≡ max self.highest (row + 1) }
+    {
+        Tally {
+            stand: self.stand.saturating_add(1),
+            refused: self.refused,
+            highest: self.highest.max(row.saturating_add(1)),
+        }
+    }
+
+    // What is told when one more is refused.
+    fn with_refusal(self) -> Tally
+        ensures stand { result.stand ≡ self.stand }
+        ensures refused { self.refused + 1 < 2 ^ 64 → result.refused ≡ self.refused + 1 }
+        ensures highest { result.highest ≡ self.highest }
+    {
+        Tally {
+            stand: self.stand,
+            refused: self.refused.saturating_add(1),
+            highest: self.highest,
+        }
+    }
+}
+
 impl fmt::Display for Tally {
     fn fmt<W: fmt::Write>(&self, f: &mut fmt::Formatter<W>) -> fmt::Result {
         let all = self.stand.saturating_add(self.refused);
@@ -118,12 +148,11 @@ impl<T: WidthTable + Copy> Report<'_, T> {
                 let ending = Ending { told, brackets };
                 println!(self.rt; "line {number}: {ending}")?;
                 self.print_rows(&grid, told.end.row)?;
-                self.tally.stand = self.tally.stand.saturating_add(1);
-                self.tally.highest = self.tally.highest.max(told.end.row.saturating_add(1));
+                self.tally = self.tally.with_end(told.end.row);
             }
             Err(rejection) => {
                 println!(self.rt; "line {number}: refused {rejection}")?;
-                self.tally.refused = self.tally.refused.saturating_add(1);
+                self.tally = self.tally.with_refusal();
             }
         }
         Ok(grid.into_cells())

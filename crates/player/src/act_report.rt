@@ -1,4 +1,8 @@
 // What is printed of each act.
+ghost use Rattle.std.specs.Prelude.{◌≡◌};
+ghost use Rattle.running.specs.Deeds.{deed};
+ghost use Rattle.player.specs.Reports.{name_of};
+
 use crate::byte_report::print_bytes;
 use crate::ending::Ending;
 use crate::fault::PlayFault;
@@ -10,7 +14,9 @@ use std::io::Write;
 use text::refusal::Refusal;
 
 // The word that a script has for an act.
-pub(crate) fn act_name(act: &Act<'_>) -> &'static str {
+pub(crate) fn act_name(act: &Act<'_>) -> &'static str
+    ensures { result.now ≡ name_of (deed act.now) }
+{
     match act {
         Act::Insert(_, _) => "insert",
         Act::Set(_, _) => "set",

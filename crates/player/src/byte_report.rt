@@ -1,9 +1,15 @@
 // Bytes as a report spells them.
+ghost use Rattle.std.specs.Prelude.{◌≡◌, ◌<◌};
+ghost use Rattle.player.specs.Reports.{digit_of};
+
 use crate::fault::PlayFault;
 use std::fmt;
 
 // A hexadecimal digit, in upper case.
-fn hex_digit(value: u8) -> char {
+fn hex_digit(value: u8) -> char
+    requires { value < 16 }
+    ensures { result ≡ digit_of value }
+{
     if value < 10 {
         char::from(value.wrapping_add(b'0'))
     } else {

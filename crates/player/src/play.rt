@@ -1,4 +1,9 @@
 // A script played on a grid.
+ghost use Rattle.std.specs.Prelude.{◌≡◌};
+ghost use Rattle.std.specs.Option.{option_map};
+ghost use Rattle.running.specs.Deeds.{deed};
+ghost use Rattle.player.specs.Asked.{asked};
+
 use crate::act_report::{Reporter, act_name};
 use crate::fault::PlayFault;
 use crate::visible::Visible;
@@ -93,7 +98,9 @@ fn wrong(line: usize, wrong: Wrong) -> PlayFault {
 }
 
 // The act that a session is asked for; none for create.
-fn act_of(act: &ScriptAct) -> Option<Act<'_>> {
+fn act_of(act: &ScriptAct) -> Option<Act<'_>>
+    ensures { option_map deed result ≡ asked act.now }
+{
     match act {
         ScriptAct::Create => None,
         ScriptAct::Insert(text, count) => Some(Act::Insert(text.as_slice(), *count)),

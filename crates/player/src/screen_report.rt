@@ -1,9 +1,20 @@
 // The screen as a report shows it.
+ghost use Rattle.std.specs.Prelude.{◌≡◌, true};
+ghost use Rattle.player.specs.Reports.{sign_of};
+ghost use Rattle.player.specs.Rows.{BlankRow, LastRow};
+
 use crate::fault::PlayFault;
 use crate::visible::Visible;
 use screen::cells::Cell;
 use std::fmt;
 use terminal::size::Size;
+
+// The sign for a character: a middle dot for U+0020, which a blank is not to be taken for.
+fn sign_of(c: char) -> char
+    ensures { result ≡ sign_of c }
+{
+    if c == ' ' { '\u{b7}' } else { c }
+}
 
 // A row as it stands on the screen: a blank as a space, and the character U+0020 as a middle dot.
 #[derive(Drop)]
@@ -19,7 +30,7 @@ impl<S: Visible> fmt::Display for Row<'_, S> {
             match self.terminal.cell(self.row, col) {
                 Cell::Blank => f.write_char(' ')?,
                 Cell::Glyph(c, mark) => {
-                    f.write_char(if c == ' ' { '\u{b7}' } else { c })?;
+                    f.write_char(sign_of(c))?;
                     if let Some(m) = mark {
                         f.write_char(m)?;
                     }
@@ -32,7 +43,9 @@ impl<S: Visible> fmt::Display for Row<'_, S> {
 }
 
 // Whether every cell of a row is blank.
-fn is_blank_row<S: Visible>(terminal: &S, row: usize, cols: usize) -> bool {
+fn is_blank_row<S: Visible>(terminal: &S, row: usize, cols: usize) -> bool
+    ensures { result ≡ true → BlankRow cols (S.Visible.seen terminal.now) row }
+{
     for col in 0..cols {
         match terminal.cell(row, col) {
             Cell::Blank => {}
@@ -44,7 +57,9 @@ fn is_blank_row<S: Visible>(terminal: &S, row: usize, cols: usize) -> bool {
 }
 
 // The last row that is not blank or holds the cursor; below the window all rows are blank.
-fn last_row<S: Visible>(terminal: &S, rows: usize, cols: usize) -> usize {
+fn last_row<S: Visible>(terminal: &S, rows: usize, cols: usize) -> usize
+    ensures { LastRow rows cols (S.Visible.seen terminal.now) result }
+{
     let end = terminal.top().saturating_add(rows);
     for row in (terminal.row()..end).rev() {
         if !is_blank_row(terminal, row, cols) {
