@@ -1,10 +1,15 @@
 -- Captions of a script, and which go on from a line. Assumes nothing.
-use Rattle.std.proofs.Common.{◌≡◌, ℕ, Bool, true, false, cond, ◌&&◌, eqb, ltb, leb, List, [], ◌∷◌, length, take, drop, Some, None, Decides, Option, Bor, IfSome, sym, refl, subst, arith, length-drop}
+use Rattle.std.proofs.Common.{◌≡◌, ℕ, Bool, true, false, cond, ◌&&◌, eqb, ltb, leb, ◌<◌, List, [], ◌∷◌, length, take, drop, Some, None, Ok, Err, is_ok, Decides, Option, Result, Bor, IfSome, sym, refl, subst, arith, length-drop}
 use Rattle.std.proofs.lemmas.Slice.Eq.{bytes_eq-Decides}
-use Rattle.std.proofs.lemmas.Bool.{leb-true}
+use Rattle.std.proofs.lemmas.Bool.{false≢true, leb-true}
 use Rattle.std.proofs.lemmas.Bool.Decides.{Decides-and, Decides-like, Decides-ltb}
 use Rattle.std.specs.Option.{option_map}
-use Rattle.std.specs.Str.{bytes_eq}
+use Rattle.std.specs.Str.{IsCharBoundary, bytes_eq}
+use Rattle.std.proofs.lemmas.Str.{IsCharBoundary-from_drop}
+use Rattle.text.specs.Checks.{ChecksText}
+use Rattle.text.specs.Texts.{GoodText}
+use Rattle.text.specs.declared.refusal.Refusal.{Refusal}
+use Rattle.text.proofs.Spelling.{good-text-utf8, good-text-cut}
 use Rattle.text.specs.Tests.{good_bytes}
 use Rattle.text.proofs.Testing.{good-bytes-decides}
 use Rattle.hint.specs.Scripts.{captions_of, Continues, goes_on, first_continuing, rest_behind, script_hint}
@@ -13,6 +18,23 @@ use Rattle.hint.specs.Hints.{GoodHint}
 pub goes-on-decides : (line caption : List ℕ) → Decides (goes_on line caption) (Continues line caption)
 goes-on-decides line caption =
     Decides-like (goes_on line caption) (λ h. record { good = h.0.0; begins = h.0.1; longer = h.1.0; rest = h.1.1 }) (λ c. ((c.good, c.begins), (c.longer, c.rest))) (Decides-and (good_bytes caption && bytes_eq (take (length line) caption) line) (ltb (length line) (length caption) && good_bytes (drop (length line) caption)) (Decides-and (good_bytes caption) (bytes_eq (take (length line) caption) line) (good-bytes-decides caption) (bytes_eq-Decides (take (length line) caption) line)) (Decides-and (ltb (length line) (length caption)) (good_bytes (drop (length line) caption)) (Decides-ltb (length line) (length caption)) (good-bytes-decides (drop (length line) caption))))
+
+-- a good caption that begins with a line goes on from it where a character ends there, and only there
+pub continues-from : (line caption : List ℕ) → take (length line) caption ≡ line → length line < length caption → IsCharBoundary caption (length line) → GoodText caption → Continues line caption
+continues-from line caption e l b g = record { good = g; begins = e; longer = l; rest = (good-text-cut caption (length line) g b).1 }
+
+pub continues-boundary : {line caption : List ℕ} → Continues line caption → IsCharBoundary caption (length line)
+continues-boundary {line} {caption} c =
+    IsCharBoundary-from_drop caption (length line) (omega (arith, c.longer)) (good-text-utf8 (drop (length line) caption) c.rest)
+
+-- a check of a text decides whether it is good
+pub checks-decides : (bs : List ℕ) (r : Result (Unit {0}) Refusal) → ChecksText bs r → Decides (is_ok r) (GoodText bs)
+checks-decides bs (Ok _) h = ((λ _. h), (λ _. refl))
+checks-decides bs (Err e) h = ((λ t. absurd (false≢true t)), (λ g. absurd (h.1 g)))
+
+-- what is answered for a caption that does not go on from a line
+pub refuses : (line caption : List ℕ) → (Continues line caption → ⊥) → Decides false (Continues line caption)
+refuses line caption n = ((λ e. absurd (false≢true e)), (λ k. absurd (n k)))
 
 -- the first caption that goes on from a line does so
 pub first-continues : (line : List ℕ) (cs : List (List ℕ)) (c : List ℕ) → first_continuing line cs ≡ Some c → Continues line c

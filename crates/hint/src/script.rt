@@ -5,7 +5,7 @@ ghost use Rattle.hint.specs.Hints.{GoodHint};
 ghost use Rattle.hint.specs.Scripts.{captions_of, Continues, goes_on, first_continuing, script_hint};
 
 use crate::hint::{Hinter, MAX_HINT};
-use text::texts::check_text;
+use text::texts::{check_text, is_boundary};
 
 // Whether a caption goes on from a line: it is a good text, begins with the line, and has a rest that is a good text.
 fn continues(caption: &[u8], line: &[u8]) -> bool
@@ -15,7 +15,11 @@ fn continues(caption: &[u8], line: &[u8]) -> bool
     let Some(rest) = caption.strip_prefix(line) else {
         return false;
     };
-    !rest.is_empty() && check_text(rest).is_ok() && check_text(caption).is_ok()
+    if rest.is_empty() || !is_boundary(caption, line.len()) {
+        return false;
+    }
+    // a good text that is cut where a character ends has a good rest, so it is walked once
+    check_text(caption).is_ok()
 }
 
 // The first caption of a script that goes on from a line.

@@ -7,3 +7,4 @@ pub mod Testing
 mod Runs
 mod Walks
 mod Places
+mod Cutting

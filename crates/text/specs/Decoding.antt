@@ -1,5 +1,5 @@
 -- The character that stands at the front of some bytes. Assumes nothing.
-use Rattle.std.specs.Prelude.{◌≡◌, ℕ, ◌+◌, ◌<◌, ◌≤◌, true, List, ◌++◌, length, drop, Some, None, Option, ◌≢◌, slice_index}
+use Rattle.std.specs.Prelude.{◌≡◌, ℕ, ◌+◌, ◌<◌, ◌≤◌, true, List, ◌++◌, length, drop, Some, None, Option, ◌≢◌}
 use Rattle.std.proofs.Math.Utf8.{encode, scalar}
 use Rattle.text.specs.declared.decode.Decoded.{Decoded}
 
@@ -26,9 +26,3 @@ Within i n (Some d) = (1 ≤ d.len) × (d.len ≤ 4) × (i + d.len ≤ n)
 -- a byte that continues a character
 abbrev pub Follows : ℕ → Type 0
 Follows b = (128 ≤ b) × (b < 192)
-
--- the characters that begin with a byte take so many
-pub record Leads (b n : ℕ) : Type 0 where
-  pub some : 1 ≤ n
-  pub most : n ≤ 4
-  pub taken : (c : ℕ) → scalar c ≡ true → slice_index (encode c) 0 ≡ b → length (encode c) ≡ n

@@ -2,6 +2,7 @@ pub mod Characters
 pub mod Texts
 pub mod Simple
 pub mod Decoding
+pub mod Continuations
 pub mod Pieces
 pub mod Checks
 pub mod Refusals

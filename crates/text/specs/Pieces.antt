@@ -1,10 +1,11 @@
 -- The steps of a walk over a text: a good character, a style sequence, either of them. Assumes nothing.
 use Rattle.std.specs.Prelude.{◌≡◌, ℕ, ◌<◌, ◌≤◌, true, List, [], ◌++◌, length, Some, None, Ok, Err, Option, Result, ◌≢◌}
 use Rattle.std.specs.Borrow.{Bor}
+use Rattle.std.specs.Str.{IsCharBoundary}
 use Rattle.std.proofs.Math.Utf8.{encode, encodes}
 use Rattle.text.specs.Characters.{Good}
 use Rattle.text.specs.Decoding.{Front}
-use Rattle.text.specs.Texts.{plain, style, Styled, StyledText}
+use Rattle.text.specs.Texts.{GoodText, plain, style, Styled, StyledText}
 use Rattle.text.specs.declared.decode.Decoded.{Decoded}
 use Rattle.text.specs.declared.refusal.Refusal.{Refusal}
 use Rattle.text.specs.declared.refusal.Refusal.TheVariants.{Text}
@@ -13,6 +14,10 @@ use Rattle.text.specs.declared.refusal.Refusal.TheVariants.{Text}
 abbrev pub GoodFront : List ℕ → Option Decoded → Type 0
 GoodFront bs None = (c : ℕ) (rest : List ℕ) → Good c → bs ≢ encode c ++ rest
 GoodFront bs (Some d) = Good d.code × Front bs d
+
+-- so many bytes at the front of a text are a piece of it: a character ends there; no piece is nothing, and then the text is no good text
+abbrev pub EndsPiece : List ℕ → ℕ → Type 0
+EndsPiece bs n = (n ≤ length bs) × (0 < n → IsCharBoundary bs n) × (n ≡ 0 → 0 < length bs → GoodText bs → ⊥)
 
 -- a look for a style sequence at the front answers what stands behind it
 abbrev pub StyleFront : List ℕ → Option (Bor (List ℕ)) → Type 0

@@ -2,7 +2,7 @@
 ghost use Rattle.std.specs.Prelude.{◌≡◌, ◌≤◌, true, length, take, IsUtf8, Decides};
 ghost use Rattle.std.specs.Str.{IsCharBoundary};
 ghost use Rattle.text.specs.Checks.{ChecksText, ChecksWithin};
-ghost use Rattle.text.specs.Pieces.{GoodFront};
+ghost use Rattle.text.specs.Pieces.{EndsPiece, GoodFront};
 ghost use Rattle.text.specs.Simple.{Simple};
 ghost use Rattle.text.specs.Texts.{GoodText};
 
@@ -29,8 +29,40 @@ fn all_simple(bytes: &[u8]) -> bool
     simple
 }
 
-// Accepts a good text, and refuses any other.
+// The most bytes that are looked at together.
+const PIECE: usize = 512;
+
+// How many bytes of the front are looked at together, so that no character is cut: none where one is cut at every place.
+fn piece_len(bytes: &[u8]) -> usize
+    ensures { EndsPiece bytes.now result }
+{
+    let most = bytes.len().min(PIECE);
+    for len in (1..=most).rev() {
+        if is_boundary(bytes, len) {
+            return len;
+        }
+    }
+    0
+}
+
+// Accepts a good text, and refuses any other, at the piece where the fault is.
 pub fn check_text(bytes: &[u8]) -> Result<(), Refusal>
+    ensures { ChecksText bytes.now result }
+{
+    let mut rest = bytes;
+    while !rest.is_empty() {
+        let (piece, behind) = rest.split_at(piece_len(rest));
+        if piece.is_empty() {
+            return Err(Refusal::Text);
+        }
+        check_piece(piece)?;
+        rest = behind;
+    }
+    Ok(())
+}
+
+// Accepts a good text, and refuses any other, when all of it is read.
+fn check_piece(bytes: &[u8]) -> Result<(), Refusal>
     ensures { ChecksText bytes.now result }
 {
     if all_simple(bytes) {

@@ -1,6 +1,4 @@
 -- `split_piece` meets its contract. Assumes nothing.
-use Rattle.std.proofs.Common.{Some, arith}
-use Rattle.text.proofs.Decodes.{char-within}
 use Rattle.text.proofs.Walks.{piece-style, piece-char, no-piece}
 use Rattle.text.proofs.styled.split_piece.Goals as goal
 
