@@ -118,7 +118,8 @@ impl Unmatched {
         }
     }
 
-    // Counts one more byte, its own kind up and the partner down: whether none is left.
+    // Counts one more byte, its own kind up and the partner down: whether none is left, which only a partner can make so.
+    #[inline]
     fn meets(&mut self, byte: u8) -> bool
         requires some { 0 < self.old.count }
         requires few { self.old.count < usize.MAX }
@@ -128,10 +129,12 @@ impl Unmatched {
     {
         if byte == self.counterpart {
             self.count -= 1;
-        } else if byte == self.bracket {
+            return self.count == 0;
+        }
+        if byte == self.bracket {
             self.count += 1;
         }
-        self.count == 0
+        false
     }
 }
 

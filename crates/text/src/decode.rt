@@ -35,6 +35,7 @@ pub fn char_at(bytes: &[u8], at: usize) -> Option<Decoded>
 }
 
 // The character that begins the bytes. Its bytes are read once: `from_utf8` and then `chars` read them twice, and three times as long.
+#[inline(always)]
 pub(crate) fn first_char(bytes: &[u8]) -> Option<Decoded>
     ensures { Decodes bytes.now result }
 {

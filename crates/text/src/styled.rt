@@ -69,6 +69,7 @@ impl<'a> Iterator for Pieces<'a> {
 
     ghost remaining = { λ s. at_most (length s.0.now) };
 
+    #[inline(always)]
     fn next(&mut self) -> Option<Result<&'a [u8], Refusal>> {
         if self.0.is_empty() {
             return None;
@@ -87,17 +88,19 @@ impl<'a> Iterator for Pieces<'a> {
 }
 
 // What the first character or style sequence shows, and what stands behind it.
+#[inline(always)]
 fn split_piece(bytes: &[u8]) -> Option<(&[u8], &[u8])>
     ensures { NextPiece bytes.now result }
 {
-    if let Some(rest) = past_style(bytes) {
-        return Some((&[], rest));
+    // most pieces are characters, and no character that a text may hold begins a style sequence
+    if let Some(found) = good_char(bytes) {
+        return Some(bytes.split_at(found.len));
     }
-    let found = good_char(bytes)?;
-    Some(bytes.split_at(found.len))
+    Some((&[], past_style(bytes)?))
 }
 
 // What stands behind the style sequence that begins the bytes.
+#[inline(never)]
 fn past_style(bytes: &[u8]) -> Option<&[u8]>
     ensures { StyleFront bytes.now result }
 {

@@ -97,6 +97,7 @@ pub fn is_boundary(bytes: &[u8], at: usize) -> bool
 }
 
 // The character that begins the bytes, if it is one that a text may hold.
+#[inline(always)]
 pub(crate) fn good_char(bytes: &[u8]) -> Option<Decoded>
     ensures { GoodFront bytes.now result }
 {
