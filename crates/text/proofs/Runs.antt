@@ -1,14 +1,8 @@
 -- Runs of digits and semicolons, and looks for a style sequence. Assumes nothing.
-use Rattle.std.proofs.Common.{◌≡◌, ℕ, suc, ◌+◌, Bool, true, false, not, cond, ltb, List, [], ◌∷◌, ◌++◌, length, take, drop, Some, None, Option, sym, refl, ap, ◌∙◌, subst, append_assoc, append-nil, arith, take-append-drop}
+use Rattle.std.proofs.Common.{◌≡◌, ℕ, zero, suc, ◌+◌, ◌-◌, ◌≤◌, Bool, true, false, not, cond, ltb, List, [], ◌∷◌, ◌++◌, length, get_or, take, drop, Some, None, Option, sym, refl, ap, ◌∙◌, subst, append_assoc, append-nil, arith, take-append-drop}
 use Rattle.std.specs.List.{position, position_or_len}
 use Rattle.std.proofs.lemmas.Bool.{and_from, ltb-false}
-use Rattle.std.proofs.lemmas.Bool.Decides.{not_from_Decides}
-use Rattle.std.proofs.lemmas.List.{take_all}
-use Rattle.std.proofs.lemmas.Slice.Eq.{bytes_eq-Decides}
-use Rattle.std.specs.Borrow.{Bor}
-use Rattle.std.specs.Option.{MatchOption}
-use Rattle.std.specs.Str.{bytes_eq}
-use Rattle.text.specs.Pieces.{StyleFront}
+use Rattle.std.proofs.lemmas.List.{drop-drop, take_all, take_rest}
 use Rattle.text.specs.Texts.{is_plain, plain, style}
 use Rattle.text.proofs.Styling.{Stops, run-same}
 
@@ -41,8 +35,22 @@ run-ends bs = by (ltb (run bs) (length bs)) refl
     by false e = subst (λ l. plain l ≡ true) (take_all (run bs) bs (ltb-false _ _ e)) (run-told bs).0
 
 -- bytes that open as a style sequence does
-pub opens : (bs qs : List ℕ) → bytes_eq (take 2 bs) (27 ∷ 91 ∷ []) ≡ true → qs ≡ drop 2 bs → bs ≡ 27 ∷ 91 ∷ qs
-opens bs qs h e = sym (take-append-drop 2 bs) ∙ (λ i. (bytes_eq-Decides (take 2 bs) (27 ∷ 91 ∷ [])).0 h i ++ sym e i)
+pub opens : (bs : List ℕ) → 2 ≤ length bs → get_or bs 0 0 ≡ 27 → get_or bs 1 0 ≡ 91 → bs ≡ 27 ∷ 91 ∷ take (length bs - 2) (drop 2 bs)
+opens [] l a b = absurd (omega arith)
+opens (x ∷ []) l a b = absurd (omega arith)
+opens (x ∷ y ∷ zs) l a b = λ i. a i ∷ b i ∷ sym (take_rest (x ∷ y ∷ zs) 2) i
+
+-- the `m` at an index, as bytes, and where it is not
+pub final : (qs : List ℕ) (n : ℕ) → get_or qs n 0 ≡ 109 → take 1 (drop n qs) ≡ 109 ∷ []
+final [] n e = absurd (omega (arith, e))
+final (q ∷ qs) zero e = λ i. e i ∷ []
+final (q ∷ qs) (suc n) e = final qs n e
+
+pub not-final : (qs : List ℕ) (n : ℕ) → (get_or qs n 0 ≡ 109 → ⊥) → take 1 (drop n qs) ≡ 109 ∷ [] → ⊥
+not-final [] zero h e = omega (arith, ap length e)
+not-final [] (suc n) h e = omega (arith, ap length e)
+not-final (q ∷ qs) zero h e = h (ap (λ l. get_or l 0 0) e)
+not-final (q ∷ qs) (suc n) h e = not-final qs n h e
 
 -- bytes that go on as a style sequence does behind its opening, or do not
 module _ (bs qs : List ℕ) (opening : bs ≡ 27 ∷ 91 ∷ qs) where
@@ -64,8 +72,6 @@ module _ (bs qs : List ℕ) (opening : bs ≡ 27 ∷ 91 ∷ qs) where
     style-whole h =
         opening ∙ ap (λ l. 27 ∷ 91 ∷ l) (sym (take-append-drop n qs) ∙ ap (λ l. take n qs ++ l) (sym (take-append-drop 1 (drop n qs)) ∙ ap (λ l. l ++ drop 1 (drop n qs)) h) ∙ sym (append_assoc (take n qs) (109 ∷ []) (drop 1 (drop n qs))))
 
-    -- what a look for the `m` behind the run answers
-    pub style-front : (o : Option (Bor (List ℕ))) → MatchOption o (bytes_eq (take 1 (drop n qs)) (109 ∷ []) ≡ false) (λ x. (bytes_eq (take 1 (drop n qs)) (109 ∷ []) ≡ true) × (x.now ≡ drop 1 (drop n qs)) × (length x.now + 1 ≡ length (drop n qs))) → StyleFront bs o
-    style-front None h = style-other (not_from_Decides _ (bytes_eq-Decides (take 1 (drop n qs)) (109 ∷ [])) h)
-    style-front (Some x) h =
-        (take n qs, r.0, style-whole ((bytes_eq-Decides (take 1 (drop n qs)) (109 ∷ [])).0 h.0) ∙ ap (λ l. style (take n qs) ++ l) (sym h.1))
+    -- what stands behind the `m`
+    pub style-rest : take 1 (drop n qs) ≡ 109 ∷ [] → bs ≡ style (take n qs) ++ take (length qs - (n + 1)) (drop (n + 1) qs)
+    style-rest h = style-whole h ∙ ap (λ l. style (take n qs) ++ l) (drop-drop 1 n qs ∙ sym (take_rest qs (n + 1)))

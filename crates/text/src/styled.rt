@@ -7,6 +7,9 @@ ghost use Rattle.text.specs.Texts.{is_plain};
 use crate::refusal::Refusal;
 use crate::texts::good_char;
 
+// The byte that begins a style sequence.
+const ESC: u8 = 27;
+
 // Accepts a good styled text and gives the length of its visible text, and refuses any other.
 pub fn check_styled(bytes: &[u8]) -> Result<usize, Refusal>
     ensures { ChecksStyled bytes.now result }
@@ -99,14 +102,20 @@ fn split_piece(bytes: &[u8]) -> Option<(&[u8], &[u8])>
     Some((&[], past_style(bytes)?))
 }
 
-// What stands behind the style sequence that begins the bytes.
+// What stands behind the style sequence that begins the bytes. Not inlined, so that the walk over characters stays short.
 #[inline(never)]
 fn past_style(bytes: &[u8]) -> Option<&[u8]>
     ensures { StyleFront bytes.now result }
 {
-    let parameters = bytes.strip_prefix(b"\x1b[")?;
+    if bytes.len() < 2 || bytes[0] != ESC || bytes[1] != b'[' {
+        return None;
+    }
+    let parameters = &bytes[2..];
     let end = plain_end(parameters)?;
-    parameters[end..].strip_prefix(b"m")
+    if parameters[end] != b'm' {
+        return None;
+    }
+    Some(&parameters[end + 1..])
 }
 
 // The index of the first byte that is no digit and no semicolon.

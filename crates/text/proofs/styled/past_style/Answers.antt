@@ -1,18 +1,25 @@
 -- `past_style` meets its contract. Assumes nothing.
-use Rattle.std.proofs.Common.{sym, subst}
-use Rattle.std.proofs.lemmas.List.{take_rest}
-use Rattle.text.proofs.Runs.{RunEnds, run-ends, opens, style-endless, style-front}
+use Rattle.std.proofs.Common.{◌-◌, length, take, drop, sym, subst, arith}
+use Rattle.text.proofs.Runs.{RunEnds, run-ends, final, not-final, opens, style-endless, style-other, style-rest}
 use Rattle.text.proofs.styled.past_style.Goals as goal
 
 pub returns-in_err-end : goal.returns-in_err-end
 returns-in_err-end c =
-    let h = c.in_ok-parameters.ensures.cases in
-    let qs = c.in_ok-parameters.parameters.now in
-    rw c.from_residual-in_err-end.ensures (style-endless c.args.bytes.now qs (opens c.args.bytes.now qs h.0 h.1) (subst (RunEnds qs) (sym c.in_err-end.ensures) (run-ends qs)))
+    let bs = c.args.bytes.now in
+    let qs = take (length bs - 2) (drop 2 bs) in
+    rw c.from_residual.ensures (style-endless bs qs (opens bs (omega arith) c.if-bytes-ne-ESC.false c.if-bytes-ne91.false) (subst (RunEnds qs) (sym c.in_err-end.ensures) (run-ends qs)))
+
+pub returns-then-parameters-end-ne109 : goal.returns-then-parameters-end-ne109
+returns-then-parameters-end-ne109 c =
+    let bs = c.args.bytes.now in
+    let qs = take (length bs - 2) (drop 2 bs) in
+    let n = c.in_ok-end.end in
+    style-other bs qs (opens bs (omega arith) c.if-bytes-ne-ESC.false c.if-bytes-ne91.false) n (subst (RunEnds qs) (sym c.in_ok-end.ensures) (run-ends qs)) (not-final qs n c.if-parameters-end-ne109.true)
 
 pub returns : goal.returns
 returns c =
-    let h = c.in_ok-parameters.ensures.cases in
-    let qs = c.in_ok-parameters.parameters.now in
-    let k = rw take_rest at c.strip_prefix-2.ensures.cases in
-    style-front c.args.bytes.now qs (opens c.args.bytes.now qs h.0 h.1) c.in_ok-end.end (subst (RunEnds qs) (sym c.in_ok-end.ensures) (run-ends qs)) c.strip_prefix-2.result k
+    let bs = c.args.bytes.now in
+    let qs = take (length bs - 2) (drop 2 bs) in
+    let n = c.in_ok-end.end in
+    let r = subst (RunEnds qs) (sym c.in_ok-end.ensures) (run-ends qs) in
+    (take n qs, r.0, style-rest bs qs (opens bs (omega arith) c.if-bytes-ne-ESC.false c.if-bytes-ne91.false) n r (final qs n c.if-parameters-end-ne109.false))
